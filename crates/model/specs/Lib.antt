@@ -1,0 +1,9 @@
+pub mod Lists
+pub mod Sheet
+pub mod Limits
+pub mod WellFormed
+pub mod Run
+pub mod Demand
+pub mod Verdict
+pub mod Tape
+pub mod Work

@@ -1,0 +1,52 @@
+-- The sheet's values (document 01, 'The sheet'). Records, so that a later field joins its record. Assumes nothing.
+use mathlib.Core.List.{List}
+use Prim.Native.Nat.{ℕ}
+use lib.ListN.{length}
+use Rattle.model.specs.Lists.{sumOf}
+
+pub record Task : Type 0 where
+  pub offset : ℕ
+  pub cost : ℕ
+  pub LET : ℕ
+  pub period : ℕ
+
+pub record Switch : Type 0 where
+  pub target : ℕ
+  pub period : ℕ
+
+pub record Mode : Type 0 where
+  pub period : ℕ
+  pub tasks : List Task
+  pub switches : List Switch
+
+pub record Module : Type 0 where
+  pub modes : List Mode
+
+pub record Sheet : Type 0 where
+  pub horizon : ℕ
+  pub modules : List Module
+
+-- how many of each a module and a sheet have
+abbrev pub modesIn : Module → ℕ
+modesIn m = length (m .modes)
+
+abbrev pub tasksIn : Module → ℕ
+tasksIn m = sumOf (λ (o : Mode). length (o .tasks)) (m .modes)
+
+abbrev pub switchesIn : Module → ℕ
+switchesIn m = sumOf (λ (o : Mode). length (o .switches)) (m .modes)
+
+pub record Counts : Type 0 where
+  pub modules : ℕ
+  pub modes : ℕ
+  pub tasks : ℕ
+  pub switches : ℕ
+
+abbrev pub counts : Sheet → Counts
+counts s =
+    record {
+      modules = length (s .modules);
+      modes = sumOf modesIn (s .modules);
+      tasks = sumOf tasksIn (s .modules);
+      switches = sumOf switchesIn (s .modules);
+    }
