@@ -1,0 +1,5 @@
+pub mod Record
+pub mod Encoding
+pub mod Rules
+pub mod Judgement
+pub mod Refusal
