@@ -50,6 +50,10 @@ pub data Next (m : Module) (s t : State) : Type 0 where
 abbrev pub Run : Type 0
 Run = ℕ → State
 
+-- the run from its second tick on
+abbrev pub later : Run → Run
+later ρ t = ρ (suc t)
+
 -- .. one by one by this rule; here one that begins in the state s.
 pub record IsRun (m : Module) (s : State) (ρ : Run) : Type 0 where
   pub starts : ρ 0 ≡ s

@@ -7,14 +7,10 @@ use Prim.Native.Nat.{ℕ, zero, suc, pred, _<_}
 use lib.Dec.{ltb, leb}
 use Rattle.model.specs.Lists.{Pairwise}
 use Rattle.model.specs.Sheet.{Module, Sheet}
-use Rattle.model.specs.Run.{State, first, Run, IsRun, demand}
+use Rattle.model.specs.Run.{State, first, Run, later, IsRun, demand}
 use Rattle.model.specs.Demand.{Largest, nexts, value}
 
 -- What a tape is.
-
--- the run from its second tick on
-abbrev pub later : Run → Run
-later ρ t = ρ (suc t)
 
 -- for each tick 0 to b - 1 the mode's number
 abbrev pub tapeOf : Run → ℕ → List ℕ

@@ -1,0 +1,7 @@
+pub mod Lists
+pub mod Runs
+pub mod Demands
+pub mod Division
+pub mod ModeDemands
+pub mod Verdicts
+pub mod Tapes
