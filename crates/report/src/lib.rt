@@ -1,0 +1,1 @@
+// What the program prints. This crate holds the definition (specs/) and its laws (proofs/).
