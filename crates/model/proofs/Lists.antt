@@ -58,6 +58,11 @@ pub all-mem : {A : Type 0} (P : A → Type 0) (x : A) (xs : List A) → All P xs
 all-mem P x (y ∷ ys) h (List·Memᴰ·head e) = rw e (h .0)
 all-mem P x (y ∷ ys) h (List·Memᴰ·tail k) = all-mem P x ys (h .1) k
 
+pub all-at : {A : Type 0} (P : A → Type 0) (d : A) (xs : List A) → All P xs → (k : ℕ) → k < length xs → P (getD xs k d)
+all-at P d [] h k l = absurd (omega arith)
+all-at P d (x ∷ xs) h zero l = h .0
+all-at P d (x ∷ xs) h (suc k) l = all-at P d xs (h .1) k (le-of-suc-le-suc l)
+
 pub allFrom-at : {A : Type 0} (P : ℕ → A → Type 0) (d : A) (i : ℕ) (xs : List A) → AllFrom P i xs → (k : ℕ) → k < length xs → P (i + k) (getD xs k d)
 allFrom-at P d i [] h k l = absurd (omega arith)
 allFrom-at P d i (x ∷ xs) h zero l = rw add-zero (h .0)
