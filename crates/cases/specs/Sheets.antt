@@ -1,5 +1,5 @@
 -- The sheets of the worked cases (document 01, 'Program and examples'): bytes where the case gives bytes, values else. Assumes nothing.
-use mathlib.Core.List.{List, [], _∷_, _++_}
+use mathlib.Core.List.{List, [], _∷_}
 use Prim.Native.Nat.{ℕ}
 use Rattle.model.specs.Sheet.{Task, Switch, Mode, Module, Sheet}
 

@@ -128,7 +128,7 @@ take-record bs h p m w =
     let fits : p + size m ≤ length bs = w .fits in
     let marks : size m ≡ suc (suc (2 * fields m)) = omega arith in
     let words : getD bs p 0 ∷ getD bs (p + 1) 0 ∷ take (2 * fields m) (drop (p + 2) bs) ≡ recordBytes (recordAt m bs p) =
-        rw (mark-bytes bs h p m (w .mark) .0, mark-bytes bs h p m (w .mark) .1, take-fields bs h (p + 2) (fields m) (omega arith), markOf-recordAt m bs p, fieldsOf-recordAt m bs p) in
+    rw (mark-bytes bs h p m (w .mark) .0, mark-bytes bs h p m (w .mark) .1, take-fields bs h (p + 2) (fields m) (omega arith), markOf-recordAt m bs p, fieldsOf-recordAt m bs p) in
     rw (marks, take-two bs p (2 * fields m) (omega arith)) words
 
 -- The records at the front are the bytes there.
@@ -177,7 +177,7 @@ unfolding recordBytes
 whole-after bs r more =
     record {
       mark = rw (getD-append-seam, getD-append-add bs (recordBytes r ++ more) 1 0, coded-mark (markOf r));
-      fits = omega (arith, length-append bs (recordBytes r ++ more), length-append (recordBytes r) more, length-recordBytes r)
+      fits = omega (arith, length-append bs (recordBytes r ++ more), length-append (recordBytes r) more, length-recordBytes r);
     }
 
 -- Records that pass their tests are at the front of their own bytes.
@@ -190,5 +190,5 @@ front-of (r ∷ rs) s more =
       s .1,
       rw (length-joined rs) at (whole-after bs r more),
       rw (length-joined rs) at (recordAt-append (markOf r) bs (recordBytes r ++ more) ∙ recordAt-first r more),
-      s .2
+      s .2,
     )

@@ -1,8 +1,8 @@
 -- The judgement accepts a byte list exactly when it is the encoding of a well-formed sheet value, and then gives that value; what it accepts has at most
 -- 3,624 bytes, and no place that it names is past them. Assumes nothing.
-use mathlib.Core.Path.{_≡_, refl, sym, _∙_, ap, subst}
-use mathlib.Core.Bool.{true, false, false≢true}
-use mathlib.Core.List.{List, [], _∷_, _++_, reverse, reverse-reverse, reverseAux-append, append-nil}
+use mathlib.Core.Path.{_≡_, sym, _∙_, ap, subst}
+use mathlib.Core.Bool.{true, false≢true}
+use mathlib.Core.List.{List, [], _∷_, reverse, reverse-reverse, reverseAux-append, append-nil}
 use Prim.Native.Nat.{ℕ, _≤_}
 use native.Mathlib.Omega.{arith}
 use lib.ListN.{length, take}
@@ -11,9 +11,9 @@ use Rattle.model.specs.Sheet.{Sheet}
 use Rattle.model.specs.Limits.{maxBytes}
 use Rattle.model.specs.WellFormed.{WellFormed}
 use Rattle.format.specs.Record.{Record, hz, ml, md, tk, sw, en}
-use Rattle.format.specs.Encoding.{joined, recordsBeforeEnd, records, recordBytes, encode}
+use Rattle.format.specs.Encoding.{joined, records, recordBytes, encode}
 use Rattle.format.specs.Rules.{ended, AllSound}
-use Rattle.format.specs.Judgement.{Judgement, refused, accepted, gathered, judgement}
+use Rattle.format.specs.Judgement.{refused, accepted, gathered, judgement}
 use Rattle.format.specs.Refusal.{AreBytes, bytesIn, Front, Refusal, no-mark, unknown-mark, cut-short, out-of-order, past-count, bad-field, bytes-after, Acceptance}
 use Rattle.format.proofs.Sizes.{sound-size, fields-fit, longest, longest-wellFormed, longest-length}
 use Rattle.format.proofs.Gathering.{gathered-records, gathered-wellFormed}

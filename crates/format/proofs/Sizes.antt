@@ -1,20 +1,20 @@
 -- The limits of the bytes: sound records have at most 3,624 bytes and fields of 16 bits, and one sheet has all 3,624. Assumes nothing.
 use mathlib.Core.Path.{_≡_, refl, ap}
-use mathlib.Core.Bool.{Bool, true, false, not, _&&_, and-eq-true-iff, false≢true}
+use mathlib.Core.Bool.{Bool, true, false, and-eq-true-iff, false≢true}
 use mathlib.Core.List.{List, [], _∷_}
 use Prim.Native.Nat.{ℕ, zero, suc, _+_, _*_, _%_, _≤_, _<_}
 use native.Mathlib.Nat.{le-of-dvd, dvd-of-mod-eq-zero}
 use native.Mathlib.Omega.{arith}
-use lib.Dec.{leb, ltb, eqb}
+use lib.Dec.{eqb}
 use lib.ListN.{length, replicate}
 use borrow.Author.Tests.{ltb-true, leb-true, eqb-true}
 use Rattle.model.specs.Lists.{when, All, AllFrom}
-use Rattle.model.specs.Sheet.{Task, Switch, Mode, Module, Sheet}
-use Rattle.model.specs.Limits.{maxHorizon, maxModules, maxModes, maxModePeriod, maxModeTasks, maxTasks, maxSwitches, maxBytes}
-use Rattle.model.specs.WellFormed.{TaskRule, SwitchRule, ModeRule, ModuleRule, WellFormed}
+use Rattle.model.specs.Sheet.{Mode, Module, Sheet}
+use Rattle.model.specs.Limits.{maxModules, maxModes, maxModePeriod, maxModeTasks, maxTasks, maxSwitches, maxBytes}
+use Rattle.model.specs.WellFormed.{ModeRule, ModuleRule, WellFormed}
 use Rattle.format.specs.Record.{Record, hz, ml, md, tk, sw, en, fieldsOf}
 use Rattle.format.specs.Encoding.{modeRecords, moduleRecords, recordsBeforeEnd, records, recordBytes, encode}
-use Rattle.format.specs.Rules.{ofMD, ofTK, ofSW, taken, modulesRead, stated, seen, modePeriod, tasksRead, switchesRead, isEmpty, ended, ordered, counted, divides, eachDivides, named, taskRuled, switchRuled, ruled, Sound, AllSound}
+use Rattle.format.specs.Rules.{ofMD, ofTK, ofSW, taken, modulesRead, stated, seen, modePeriod, tasksRead, ended, ordered, counted, taskRuled, switchRuled, ruled, Sound, AllSound}
 use Rattle.format.specs.Refusal.{bytesIn}
 
 -- The bytes follow from the counts of the records, and each module takes at most the modes that its ML states.
@@ -42,6 +42,7 @@ pub small : (rs : List Record) → AllSound rs → Small rs
 small [] a = omega arith
 small (r ∷ rs) a = small-next r rs (ap (λ (c : Bool). when c 4) (a .1)) (a .2) (small rs (a .0))
 
+-- HZ and EN once, 8 modules of 8 modes, 256 tasks and 128 switches: 3,624 bytes at most.
 pub sound-size : (rs : List Record) → AllSound rs → bytesIn rs ≤ maxBytes
 sound-size rs a =
     let q : Small rs = small rs a in
@@ -70,16 +71,13 @@ period (tk k ∷ rs) a = period rs (a .0)
 period (sw w ∷ rs) a = period rs (a .0)
 period (en n ∷ rs) a = period rs (a .0)
 
--- each record has more bytes than one
+-- each record has bytes
 length-bytes : (rs : List Record) → length rs ≤ bytesIn rs
 length-bytes [] = omega arith
 length-bytes (r ∷ rs) = let h : length rs ≤ bytesIn rs = length-bytes rs in omega arith
 
-Fit : Record → Type 0
-Fit r = All (λ v. v < 65536) (fieldsOf r)
-
-fits : (r : Record) (rs : List Record) → AllSound rs → Sound rs r → Fit r
-unfolding Fit ordered counted ruled taskRuled switchRuled
+fits : (r : Record) (rs : List Record) → AllSound rs → Sound rs r → All (λ v. v < 65536) (fieldsOf r)
+unfolding ordered ruled taskRuled switchRuled
 fits (hz h) rs a s = omega (arith, leb-true, simp and-eq-true-iff at (s .value))
 fits (ml n) rs a s = omega (arith, leb-true, simp and-eq-true-iff at (s .value))
 fits (md p) rs a s = omega (arith, leb-true, simp and-eq-true-iff at (s .value))
@@ -94,8 +92,8 @@ fits (sw w) rs a s =
     omega (arith, ltb-true, v, period rs a .1, small rs a .states)
 fits (en n) rs a s = omega (arith, eqb-true n (length rs) (s .value), length-bytes rs, sound-size rs a)
 
+-- Each field is a number of 16 bits.
 pub fields-fit : (rs : List Record) → AllSound rs → All (λ (r : Record). All (λ v. v < 65536) (fieldsOf r)) rs
-unfolding Fit
 fields-fit [] a = tt
 fields-fit (r ∷ rs) a = (fits r rs (a .0) (a .2), fields-fit rs (a .0))
 
@@ -144,6 +142,7 @@ all-replicate : {A : Type 0} (P : A → Type 0) (n : ℕ) (x : A) → P x → Al
 all-replicate P zero x h = tt
 all-replicate P (suc n) x h = (h, all-replicate P n x h)
 
+-- The longest sheet is well-formed and has all the bytes.
 pub longest-wellFormed : WellFormed longest
 longest-wellFormed =
     record { horizon-least = omega arith; horizon-most = omega arith; modules-least = omega arith; modules-most = omega arith; modules = all-replicate ModuleRule 8 eight eight-right; tasks-most = omega arith; switches-most = omega arith }

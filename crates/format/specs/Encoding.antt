@@ -2,7 +2,7 @@
 use mathlib.Core.List.{List, [], _∷_, _++_, map}
 use Prim.Native.Nat.{ℕ, _/_, _%_}
 use lib.ListN.{length}
-use Rattle.model.specs.Sheet.{Task, Switch, Mode, Module, Sheet}
+use Rattle.model.specs.Sheet.{Mode, Module, Sheet}
 use Rattle.format.specs.Record.{Record, hz, ml, md, tk, sw, en, markOf, fieldsOf, code}
 
 -- the lists that f gives, one after the other

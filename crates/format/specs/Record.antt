@@ -1,10 +1,10 @@
 -- Records: marks, fields and where they stand in the bytes (document 01, 'The sheet'). Assumes nothing.
-use mathlib.Core.Bool.{Bool, true, false, cond}
+use mathlib.Core.Bool.{cond}
 use mathlib.Core.Option.{Option, none, some}
 use mathlib.Core.List.{List, [], _∷_}
 use Prim.Native.Nat.{ℕ, _+_, _*_}
 use lib.Dec.{eqb}
-use lib.ListN.{length, getD}
+use lib.ListN.{getD}
 use Rattle.model.specs.Sheet.{Task, Switch}
 
 pub data Mark : Type 0 where

@@ -9,7 +9,7 @@ use native.Mathlib.Omega.{arith}
 use lib.Dec.{leb}
 use lib.ListN.{length}
 use borrow.Author.Tests.{leb-true, leb-false}
-use Rattle.model.specs.Lists.{when, sumOf, ticks, All}
+use Rattle.model.specs.Lists.{when, ticks, All}
 use Rattle.model.specs.Sheet.{Task, Module}
 use Rattle.model.specs.WellFormed.{TaskRule, ModuleRule}
 use Rattle.model.specs.Run.{State, at, modeAt, Run, Next, on, again, releases, gainOf, gain, demand}

@@ -1,7 +1,7 @@
 -- Runs, and the demand of a run (document 01, 'Runs'). Assumes nothing.
 use mathlib.Core.Path.{_≡_}
 use mathlib.Core.Bool.{Bool, _&&_}
-use mathlib.Core.List.{List, [], List·Memᴰ}
+use mathlib.Core.List.{[], List·Memᴰ}
 use Prim.Native.Nat.{ℕ, suc, _+_, _-_, _%_, _<_}
 use lib.Dec.{leb, eqb}
 use lib.ListN.{getD, length}

@@ -1,7 +1,5 @@
 -- The quick and the exact test: what an answer means, and what computes it (document 01, 'Runs'). Assumes nothing.
-use mathlib.Core.Path.{_≡_}
 use mathlib.Core.Bool.{Bool, true, false}
-use mathlib.Core.List.{List}
 use Prim.Native.Nat.{ℕ, zero, suc, _-_, _≤_, _<_}
 use lib.Dec.{ltb}
 use Rattle.model.specs.Lists.{sumOf, SumIs}

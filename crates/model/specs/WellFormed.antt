@@ -1,6 +1,6 @@
 -- Well-formed sheet values (document 01, 'The sheet': the limits, the task rules, the switch rules). Assumes nothing.
 use mathlib.Core.Path.{_≡_}
-use mathlib.Core.List.{List, map}
+use mathlib.Core.List.{map}
 use Prim.Native.Nat.{ℕ, _+_, _%_, _≤_, _<_}
 use lib.ListN.{length}
 use Rattle.model.specs.Lists.{All, AllFrom, Distinct}

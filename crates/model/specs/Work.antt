@@ -1,12 +1,11 @@
 -- Instances, work, orders of work, earliest deadline first, on time (document 01, 'Runs', its last paragraph). Assumes nothing.
 use mathlib.Core.Path.{_≡_}
 use mathlib.Core.Bool.{Bool, true, _&&_}
-use mathlib.Core.List.{List}
 use Prim.Native.Nat.{ℕ, zero, suc, _+_, _≤_, _<_}
 use lib.Dec.{eqb}
 use Rattle.model.specs.Lists.{when, Nth}
 use Rattle.model.specs.Sheet.{Task, Module, Sheet}
-use Rattle.model.specs.Run.{State, first, modeOf, Run, IsRun, releases}
+use Rattle.model.specs.Run.{first, modeOf, Run, IsRun, releases}
 
 -- one run for each module of the sheet
 abbrev pub Runs : Type 0

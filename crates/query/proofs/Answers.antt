@@ -1,17 +1,15 @@
 -- What computes a call's answer meets the answer's statement, for every byte list and all arguments, and no other answer does. Assumes nothing.
 use mathlib.Core.Path.{_≡_, refl, sym, _∙_}
-use mathlib.Core.Bool.{Bool, true, false, _&&_, cond, false≢true, and-eq-true-iff}
+use mathlib.Core.Bool.{Bool, true, false, cond, and-eq-true-iff}
 use mathlib.Core.List.{List}
-use Prim.Native.Nat.{ℕ, _≤_, _<_}
-use native.Mathlib.Omega.{arith}
-use lib.ListN.{length}
+use Prim.Native.Nat.{ℕ}
 use borrow.Author.Tests.{ltb-true, leb-true}
-use Rattle.model.specs.Sheet.{Module, Sheet}
+use Rattle.model.specs.Sheet.{Sheet}
 use Rattle.model.specs.WellFormed.{ModuleRule, WellFormed}
 use Rattle.model.specs.Run.{at, modeAt}
 use Rattle.model.specs.Demand.{ModeDemand, StateDemand, ModuleDemand, modeDemand, value, moduleDemand}
-use Rattle.model.specs.Verdict.{Quick, Exact, clear, over, QuickIs, ExactIs, quick, exact}
-use Rattle.model.specs.Tape.{AreTapes, tapes}
+use Rattle.model.specs.Verdict.{Quick, Exact, clear, over, QuickIs, quick, exact}
+use Rattle.model.specs.Tape.{tapes}
 use Rattle.model.proofs.Lists.{all-at}
 use Rattle.model.proofs.Demands.{state-demand, module-demand, state-demand-unique, module-demand-unique}
 use Rattle.model.proofs.ModeDemands.{mode-demand, mode-demand-unique}
@@ -20,7 +18,7 @@ use Rattle.model.proofs.Tapes.{tapes-are, tapes-unique}
 use Rattle.format.specs.Judgement.{Judgement, judgement}
 use Rattle.format.proofs.RoundTrip.{accepted-wellFormed}
 use Rattle.query.specs.Answer.{Answer, refused, given, Terms, GivenBy, AnsweredBy, Answered, answerOf, answer}
-use Rattle.query.specs.Query.{moduleAt, isMode, isModule, modeTerms, stateTerms, moduleTerms, quickTerms, exactTerms, ModeAnswer, StateAnswer, ModuleAnswer, QuickAnswer, ExactAnswer, Witnessed, TapesOf, WitnessedIs, modeAnswer, stateAnswer, moduleAnswer, quickAnswer, tapesFor, witnessed, exactAnswer}
+use Rattle.query.specs.Query.{moduleAt, isModule, modeTerms, stateTerms, moduleTerms, quickTerms, exactTerms, ModeAnswer, StateAnswer, ModuleAnswer, QuickAnswer, ExactAnswer, Witnessed, TapesOf, WitnessedIs, modeAnswer, stateAnswer, moduleAnswer, quickAnswer, tapesFor, witnessed, exactAnswer}
 
 -- Any call: on a well-formed sheet and in range, f is a figure that R states, and R states one figure.
 module _ {A : Type 0} (t : Terms) (R : Sheet → A → Type 0) where
