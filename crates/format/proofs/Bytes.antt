@@ -1,5 +1,5 @@
 -- Bytes and records: the records read at the front of the bytes are those bytes, and records that pass their tests are read back from their own bytes, whatever comes after. Assumes nothing.
-use mathlib.Core.Path.{_≡_, refl, sym, _∙_, ap}
+use mathlib.Core.Path.{_≡_, refl, _∙_, ap}
 use mathlib.Core.Bool.{Bool, true, false, cond}
 use mathlib.Core.Option.{Option, none, some}
 use mathlib.Core.List.{List, [], _∷_, _++_, append-nil, append-assoc, reverse, reverse-cons}
@@ -13,7 +13,7 @@ use lib.Seq.{drop-cons, take-add, getD-append-add, getD-append-seam}
 use borrow.Author.Tests.{eqb-true}
 use Rattle.model.specs.Lists.{All}
 use Rattle.format.specs.Record.{Mark, HZ, ML, MD, TK, SW, EN, Record, hz, ml, md, tk, sw, en, markOf, fieldsOf, fields, size, code, fieldAt, markCoded, markAt, recordAt}
-use Rattle.format.specs.Rules.{ended, Sound, AllSound}
+use Rattle.format.specs.Rules.{AllSound}
 use Rattle.format.specs.Encoding.{joined, fieldBytes, recordBytes}
 use Rattle.format.specs.Refusal.{AreBytes, bytesIn, Whole, Front}
 use Rattle.format.proofs.Judging.{markOf-recordAt}
@@ -52,37 +52,37 @@ bytes-append : (bs cs : List ℕ) → AreBytes bs → AreBytes cs → AreBytes (
 bytes-append [] cs g h = h
 bytes-append (b ∷ bs) cs g h = bytes-cons b (bs ++ cs) (g 0) (bytes-append bs cs (λ i. g (suc i)) h)
 
-fields-bytes : (vs : List ℕ) → All (λ v. v < 65536) vs → AreBytes (joined fieldBytes vs)
-fields-bytes [] h = λ i. omega arith
-fields-bytes (v ∷ vs) h =
+bytes-fields : (vs : List ℕ) → All (λ v. v < 65536) vs → AreBytes (joined fieldBytes vs)
+bytes-fields [] h = λ i. omega arith
+bytes-fields (v ∷ vs) h =
     let l : v < 65536 = h .0 in
-    bytes-cons (v % 256) (v / 256 ∷ joined fieldBytes vs) (omega arith) (bytes-cons (v / 256) (joined fieldBytes vs) (omega arith) (fields-bytes vs (h .1)))
+    bytes-cons (v % 256) (v / 256 ∷ joined fieldBytes vs) (omega arith) (bytes-cons (v / 256) (joined fieldBytes vs) (omega arith) (bytes-fields vs (h .1)))
 
-code-high : (m : Mark) → code m < 65536
-code-high HZ = omega arith
-code-high ML = omega arith
-code-high MD = omega arith
-code-high TK = omega arith
-code-high SW = omega arith
-code-high EN = omega arith
+code-fits : (m : Mark) → code m < 65536
+code-fits HZ = omega arith
+code-fits ML = omega arith
+code-fits MD = omega arith
+code-fits TK = omega arith
+code-fits SW = omega arith
+code-fits EN = omega arith
 
-record-bytes : (r : Record) → All (λ v. v < 65536) (fieldsOf r) → AreBytes (recordBytes r)
+bytes-record : (r : Record) → All (λ v. v < 65536) (fieldsOf r) → AreBytes (recordBytes r)
 unfolding recordBytes
-record-bytes r h =
+bytes-record r h =
     let c : ℕ = code (markOf r) in
     let vs : List ℕ = joined fieldBytes (fieldsOf r) in
-    bytes-cons (c / 256) (c % 256 ∷ vs) (omega (arith, code-high (markOf r))) (bytes-cons (c % 256) vs (omega arith) (fields-bytes (fieldsOf r) h))
+    bytes-cons (c / 256) (c % 256 ∷ vs) (omega (arith, code-fits (markOf r))) (bytes-cons (c % 256) vs (omega arith) (bytes-fields (fieldsOf r) h))
 
-pub joined-bytes : (rs : List Record) → All (λ (r : Record). All (λ v. v < 65536) (fieldsOf r)) rs → AreBytes (joined recordBytes (reverse rs))
-joined-bytes [] h = λ i. omega arith
-joined-bytes (r ∷ rs) h = rw joined-reverse-cons (bytes-append (joined recordBytes (reverse rs)) (recordBytes r) (joined-bytes rs (h .1)) (record-bytes r (h .0)))
+pub bytes-joined : (rs : List Record) → All (λ (r : Record). All (λ v. v < 65536) (fieldsOf r)) rs → AreBytes (joined recordBytes (reverse rs))
+bytes-joined [] h = λ i. omega arith
+bytes-joined (r ∷ rs) h = rw joined-reverse-cons (bytes-append (joined recordBytes (reverse rs)) (recordBytes r) (bytes-joined rs (h .1)) (bytes-record r (h .0)))
 
 -- From the bytes to the records.
 
 take-two : (bs : List ℕ) (i n : ℕ) → i + 2 ≤ length bs → take (suc (suc n)) (drop i bs) ≡ getD bs i 0 ∷ getD bs (i + 1) 0 ∷ take n (drop (i + 2) bs)
 take-two bs i n l = rw (drop-cons bs i 0 (omega arith), drop-cons bs (suc i) 0 (omega arith), ← (add-two i), ← (add-one i))
 
--- the fields of k records' words from the place i on
+-- k fields, one after the other, from the place i on
 abbrev fieldsAt : List ℕ → ℕ → ℕ → List ℕ
 fieldsAt bs i zero = []
 fieldsAt bs i (suc k) = fieldAt bs i ∷ fieldsAt bs (i + 2) k
@@ -127,14 +127,14 @@ unfolding recordBytes
 take-record bs h p m w =
     let fits : p + size m ≤ length bs = w .fits in
     let marks : size m ≡ suc (suc (2 * fields m)) = omega arith in
-    let words : getD bs p 0 ∷ getD bs (p + 1) 0 ∷ take (2 * fields m) (drop (p + 2) bs) ≡ recordBytes (recordAt m bs p) =
-    rw (mark-bytes bs h p m (w .mark) .0, mark-bytes bs h p m (w .mark) .1, take-fields bs h (p + 2) (fields m) (omega arith), markOf-recordAt m bs p, fieldsOf-recordAt m bs p) in
-    rw (marks, take-two bs p (2 * fields m) (omega arith)) words
+    let two : (getD bs p 0 ≡ code m / 256) × (getD bs (p + 1) 0 ≡ code m % 256) = mark-bytes bs h p m (w .mark) in
+    rw (marks, take-two bs p (2 * fields m) (omega arith), two .0, two .1, take-fields bs h (p + 2) (fields m) (omega arith), markOf-recordAt m bs p, fieldsOf-recordAt m bs p)
 
 -- The records at the front are the bytes there.
 pub front-bytes : (bs : List ℕ) → AreBytes bs → (rs : List Record) → Front bs rs → take (bytesIn rs) bs ≡ joined recordBytes (reverse rs)
 front-bytes bs h [] f = refl
-front-bytes bs h (r ∷ rs) f = rw (add-comm (size (markOf r)) (bytesIn rs), take-add (bytesIn rs) (size (markOf r)) bs, front-bytes bs h rs (f .0), take-record bs h (bytesIn rs) (markOf r) (f .2), f .3, joined-reverse-cons recordBytes r rs)
+front-bytes bs h (r ∷ rs) f =
+    rw (add-comm (size (markOf r)) (bytesIn rs), take-add (bytesIn rs) (size (markOf r)) bs, front-bytes bs h rs (f .0), take-record bs h (bytesIn rs) (markOf r) (f .2), f .3, joined-reverse-cons recordBytes r rs)
 
 -- From the records to the bytes.
 
@@ -171,7 +171,7 @@ recordAt-append TK bs cs = rw (fieldAt-append bs cs 2, fieldAt-append bs cs 4, f
 recordAt-append SW bs cs = rw (fieldAt-append bs cs 2, fieldAt-append bs cs 4)
 recordAt-append EN bs cs = rw (fieldAt-append bs cs 2)
 
--- a record's bytes are read after any bytes and before any
+-- the bytes of a record, after any bytes and before any, are a whole record
 whole-after : (bs : List ℕ) (r : Record) (more : List ℕ) → Whole (bs ++ (recordBytes r ++ more)) (length bs) (markOf r)
 unfolding recordBytes
 whole-after bs r more =

@@ -161,7 +161,7 @@ judgement-acceptance bs s e = subst (Stated bs) e (judgement-stated bs)
 front-tested : (bs : List ℕ) (rs : List Record) (r : Record) → Front bs (r ∷ rs) → tested bs (bytesIn rs) rs ≡ sound r
 front-tested bs rs r f = tested-whole bs (bytesIn rs) rs (markOf r) (f .2) ∙ rw (f .3, f .4 .order, f .4 .count, f .4 .value)
 
--- the judgement goes through sound records: it comes to the place after them, with as many records more as bytes are left, or with more
+-- the judgement comes to the place after sound records, and may then read at least as many records as bytes are left
 record Reached (bs : List ℕ) (rs : List Record) : Type 0 where
   more : ℕ
   enough : length bs ≤ more + bytesIn rs
@@ -207,6 +207,7 @@ refusal-unique bs n p m q a b =
     let h : judgement bs ≡ refused m q = refusal-judgement bs m q b in
     (cc, cc)
 
+-- no bytes are both refused and accepted
 pub never-both : (bs : List ℕ) (n p : ℕ) (s : Sheet) → Refusal bs n p → Acceptance bs s → ⊥
 never-both bs n p s r a =
     let e : judgement bs ≡ refused n p = refusal-judgement bs n p r in

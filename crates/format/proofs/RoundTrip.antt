@@ -19,7 +19,7 @@ use Rattle.format.proofs.Sizes.{sound-size, fields-fit, longest, longes
 use Rattle.format.proofs.Gathering.{gathered-records, gathered-wellFormed}
 use Rattle.format.proofs.Listing.{records-gathered, records-sound}
 use Rattle.format.proofs.Judging.{judgement-refusal, judgement-acceptance, acceptance-judgement}
-use Rattle.format.proofs.Bytes.{length-joined, joined-bytes, front-bytes, front-of}
+use Rattle.format.proofs.Bytes.{length-joined, bytes-joined, front-bytes, front-of}
 
 front-sound : (bs : List ℕ) (rs : List Record) → Front bs rs → AllSound rs
 front-sound bs [] f = tt
@@ -81,7 +81,7 @@ module _ (s : Sheet) (h : WellFormed s) where
   -- The encoding of a well-formed value is a list of bytes ..
   pub encoded-bytes : AreBytes (encode s)
   unfolding last-first
-  encoded-bytes = subst AreBytes (sym encoded) (joined-bytes last-first (fields-fit last-first (records-sound s h)))
+  encoded-bytes = subst AreBytes (sym encoded) (bytes-joined last-first (fields-fit last-first (records-sound s h)))
 
   -- .. that is accepted with that value.
   pub encoded-accepted : judgement (encode s) ≡ accepted s
