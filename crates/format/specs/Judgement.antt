@@ -1,5 +1,6 @@
 -- The judgement of a byte list: refused with number and place, or accepted with the sheet value (its counts are `counts` of that value).
 -- Records are judged from the front; the first bad one decides. Assumes nothing.
+use mathlib.Core.Path.{_≡_}
 use mathlib.Core.Bool.{Bool, true, false, cond}
 use mathlib.Core.Option.{Option, none, some}
 use mathlib.Core.List.{List, [], _∷_}
@@ -69,3 +70,14 @@ judgeFrom (suc n) bs p rs =
 -- a record takes more than one byte, so that this bound is never met
 unfoldable pub judgement : List ℕ → Judgement
 judgement bs = judgeFrom (suc (length bs)) bs 0 []
+
+-- the value of an accepted sheet
+abbrev pub valueOf : Judgement → Sheet
+valueOf (refused n p) = record { horizon = 0; modules = [] }
+valueOf (accepted s) = s
+
+abbrev pub sheetIn : List ℕ → Sheet
+sheetIn bs = valueOf (judgement bs)
+
+abbrev pub Accepted : List ℕ → Type 0
+Accepted bs = judgement bs ≡ accepted (sheetIn bs)

@@ -3,3 +3,4 @@ pub mod Encoding
 pub mod Rules
 pub mod Judgement
 pub mod Refusal
+pub mod Place

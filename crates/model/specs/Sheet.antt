@@ -1,7 +1,7 @@
 -- The sheet's values (document 01, 'The sheet'). Records, so that a later field joins its record. Assumes nothing.
-use mathlib.Core.List.{List}
+use mathlib.Core.List.{List, []}
 use Prim.Native.Nat.{ℕ}
-use lib.ListN.{length}
+use lib.ListN.{length, getD}
 use Rattle.model.specs.Lists.{sumOf}
 
 pub record Task : Type 0 where
@@ -25,6 +25,10 @@ pub record Module : Type 0 where
 pub record Sheet : Type 0 where
   pub horizon : ℕ
   pub modules : List Module
+
+-- the module of a number; a number that no module has names one without modes
+abbrev pub moduleAt : Sheet → ℕ → Module
+moduleAt s k = getD (s .modules) k (record { modes = [] })
 
 -- how many of each a module and a sheet have
 abbrev pub modesIn : Module → ℕ

@@ -4,7 +4,7 @@ use mathlib.Core.Bool.{Bool, true, false, cond, and-eq-true-iff}
 use mathlib.Core.List.{List}
 use Prim.Native.Nat.{ℕ}
 use borrow.Author.Tests.{ltb-true, leb-true}
-use Rattle.model.specs.Sheet.{Sheet}
+use Rattle.model.specs.Sheet.{Sheet, moduleAt}
 use Rattle.model.specs.WellFormed.{ModuleRule, WellFormed}
 use Rattle.model.specs.Run.{at, modeAt}
 use Rattle.model.specs.Demand.{ModeDemand, StateDemand, ModuleDemand, modeDemand, value, moduleDemand}
@@ -18,7 +18,7 @@ use Rattle.model.proofs.Tapes.{tapes-are, tapes-unique}
 use Rattle.format.specs.Judgement.{Judgement, judgement}
 use Rattle.format.proofs.RoundTrip.{accepted-wellFormed}
 use Rattle.query.specs.Answer.{Answer, refused, given, Terms, GivenBy, AnsweredBy, Answered, answerOf, answer}
-use Rattle.query.specs.Query.{moduleAt, isModule, modeTerms, stateTerms, moduleTerms, quickTerms, exactTerms, ModeAnswer, StateAnswer, ModuleAnswer, QuickAnswer, ExactAnswer, Witnessed, TapesOf, WitnessedIs, modeAnswer, stateAnswer, moduleAnswer, quickAnswer, tapesFor, witnessed, exactAnswer}
+use Rattle.query.specs.Query.{isModule, modeTerms, stateTerms, moduleTerms, quickTerms, exactTerms, ModeAnswer, StateAnswer, ModuleAnswer, QuickAnswer, ExactAnswer, Witnessed, TapesOf, WitnessedIs, modeAnswer, stateAnswer, moduleAnswer, quickAnswer, tapesFor, witnessed, exactAnswer}
 
 -- Any call: on a well-formed sheet and in range, f is a figure that R states, and R states one figure.
 module _ {A : Type 0} (t : Terms) (R : Sheet → A → Type 0) where

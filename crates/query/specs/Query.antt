@@ -4,18 +4,14 @@ use mathlib.Core.Bool.{Bool, true, _&&_}
 use mathlib.Core.List.{List, []}
 use Prim.Native.Nat.{ℕ, _*_}
 use lib.Dec.{leb, ltb}
-use lib.ListN.{length, getD}
-use Rattle.model.specs.Sheet.{Module, Sheet}
+use lib.ListN.{length}
+use Rattle.model.specs.Sheet.{Sheet, moduleAt}
 use Rattle.model.specs.Limits.{workNumbers}
 use Rattle.model.specs.Run.{at, modeAt}
 use Rattle.model.specs.Demand.{ModeDemand, StateDemand, ModuleDemand, modeDemand, value, moduleDemand}
 use Rattle.model.specs.Verdict.{Quick, Exact, clear, over, QuickIs, ExactIs, quick, exact}
 use Rattle.model.specs.Tape.{AreTapes, tapes}
 use Rattle.query.specs.Answer.{Answer, Terms, Answered, answer}
-
--- the module of a number; a number that no module has names one without modes
-abbrev pub moduleAt : Sheet → ℕ → Module
-moduleAt s k = getD (s .modules) k (record { modes = [] })
 
 -- Ranges (9).
 
