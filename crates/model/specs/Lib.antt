@@ -1,5 +1,6 @@
 pub mod Lists
 pub mod Sheet
+pub mod Flat
 pub mod Limits
 pub mod WellFormed
 pub mod Run
