@@ -1,29 +1,17 @@
 -- The lines that the program prints, as bytes (document 01, 'Program and examples'). Each line ends with a newline, the last too. Assumes nothing.
-use mathlib.Core.Bool.{true, false}
 use mathlib.Core.List.{List, [], _∷_, _++_, map}
-use Prim.Native.Nat.{ℕ, zero, suc, _+_, _/_, _%_}
+use Prim.Native.Nat.{ℕ, suc}
 use Prim.Native.Char.{code}
 use Prim.Native.String.{String}
-use lib.Dec.{ltb}
 use Rattle.model.specs.Sheet.{Sheet, counts}
 use Rattle.model.specs.Verdict.{Quick, Exact, clear, over, quick, exact}
 use Rattle.model.specs.Tape.{tapes}
 use Rattle.format.specs.Judgement.{Judgement, refused, accepted, judgement}
+use Rattle.report.specs.Decimal.{digit, decimal}
 
 abbrev pub ascii : String → List ℕ
 ascii String.[] = []
 ascii (String._∷_ c s) = code c ∷ ascii s
-
-abbrev pub digit : ℕ → ℕ
-digit n = 48 + n
-
--- the decimal digits of a number, before more of the line; n steps are enough for the number n
-unfoldable pub decimalFrom : ℕ → ℕ → List ℕ → List ℕ
-decimalFrom zero n more = digit n ∷ more
-decimalFrom (suc f) n more = elim (ltb n 10) [ true ↦ digit n ∷ more | false ↦ decimalFrom f (n / 10) (digit (n % 10) ∷ more) ]
-
-abbrev pub decimal : ℕ → List ℕ
-decimal n = decimalFrom n n []
 
 unfoldable pub refusedLine : ℕ → ℕ → List ℕ
 refusedLine n p = ascii "refused " ++ decimal n ++ ascii " at " ++ decimal p ++ ascii "\n"
