@@ -1,0 +1,5 @@
+pub mod Reaches
+pub mod Strides
+pub mod Figures
+pub mod Bounds
+pub mod Pieces
