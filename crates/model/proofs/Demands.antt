@@ -11,8 +11,8 @@ use Rattle.model.specs.Sheet.{Task, Module}
 use Rattle.model.specs.WellFormed.{ModuleRule}
 use Rattle.model.specs.Run.{State, at, first, modeAt, modeOf, Inside, Listed, Next, Run, later, IsRun, releases, gainOf, gain, demand}
 use Rattle.model.specs.Demand.{Largest, StateDemand, ModuleDemand, IntervalDemand, nexts, gainFirst, value, moduleDemand}
-use Rattle.model.proofs.Lists.{largest-unique, le-maxOf, maxOf-reached, le-maxBelow, maxBelow-reached}
-use Rattle.model.proofs.Runs.{nexts-sound, nexts-complete, some-next, after, after-run, later-run, second-next, period-positive, next-inside, some-run}
+use Rattle.model.proofs.Lists.{largest-unique, le-maxOf, le-maxBelow, maxBelow-reached}
+use Rattle.model.proofs.Runs.{nexts-complete, best-next, after, after-run, later-run, second-next, period-positive, next-inside, some-run}
 
 -- The demand of a run, by its first tick.
 
@@ -59,11 +59,9 @@ module _ (m : Module) (ok : ModuleRule m) where
     where
       reach : (ρ : Run) × IsRun m s ρ × (g (ρ 0) + F (later ρ) ≡ g s + maxOf B (nexts m s))
       reach =
-          let t = some-next m s h in
-          let y = maxOf-reached B (t .0) (nexts m s) (nexts-complete m s (t .0) (t .1)) in
-          let n = nexts-sound m s (y .0) (y .1) in
-          let r = below (y .0) (next-inside m ok s (y .0) n) .0 in
-          (after s (r .0), after-run m s (y .0) (r .0) n (r .1), ap (λ (k : ℕ). g s + k) (r .2 ∙ y .2))
+          let y = best-next m B s h in
+          let r = below (y .0) (next-inside m ok s (y .0) (y .1)) .0 in
+          (after s (r .0), after-run m s (y .0) (r .0) (y .1) (r .1), ap (λ (k : ℕ). g s + k) (r .2 ∙ y .2))
 
       bound : (w : ℕ) → (ρ : Run) × IsRun m s ρ × (g (ρ 0) + F (later ρ) ≡ w) → w ≤ g s + maxOf B (nexts m s)
       bound w r =

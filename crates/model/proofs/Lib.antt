@@ -5,3 +5,4 @@ pub mod Division
 pub mod ModeDemands
 pub mod Verdicts
 pub mod Tapes
+pub mod Bounds

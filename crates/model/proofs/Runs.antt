@@ -1,5 +1,5 @@
 -- `nexts` lists the states after one tick, and no others; in a module that keeps its rules there is one, and a run goes through every state. Assumes nothing.
-use mathlib.Core.Path.{_≡_, refl, subst}
+use mathlib.Core.Path.{_≡_, refl}
 use mathlib.Core.Logic.{_⊎_, inl, inr}
 use mathlib.Core.Bool.{Bool, true, false}
 use mathlib.Core.List.{List, [], _∷_, List·Memᴰ, List·Memᴰ·head, List·Memᴰ·tail, List·Memᴰ·not-nil}
@@ -10,11 +10,12 @@ use native.Mathlib.Omega.{arith}
 use lib.Dec.{ltb, eqb}
 use lib.ListN.{length, List·getD-eq-default}
 use borrow.Author.Tests.{lt-ltb, eq-eqb, ltb-true, eqb-true}
-use Rattle.model.specs.Sheet.{Switch, Mode, Module}
+use Rattle.model.specs.Lists.{maxOf}
+use Rattle.model.specs.Sheet.{Switch, Module}
 use Rattle.model.specs.WellFormed.{SwitchRule, ModeRule, ModuleRule}
 use Rattle.model.specs.Run.{State, at, idle, modeAt, modeOf, Inside, Next, on, again, switched, Run, later, IsRun}
 use Rattle.model.specs.Demand.{consIf, targets, nexts}
-use Rattle.model.proofs.Lists.{all-mem, allFrom-at}
+use Rattle.model.proofs.Lists.{maxOf-reached, all-mem, allFrom-at}
 
 -- The next states.
 
@@ -87,6 +88,13 @@ some-next m s h = pick (decLt (s .time + 1) (modeOf m s .period))
     pick (yes k) = (at (s .mode) (s .time + 1), on k refl)
     pick (no k) = (at (s .mode) 0, again (omega arith) refl)
 
+-- a next state that reaches the largest value
+pub best-next : (m : Module) (f : State → ℕ) (s : State) → Inside m s → (t : State) × Next m s t × (f t ≡ maxOf f (nexts m s))
+best-next m f s h =
+    let t = some-next m s h in
+    let y = maxOf-reached f (t .0) (nexts m s) (nexts-complete m s (t .0) (t .1)) in
+    (y .0, nexts-sound m s (y .0) (y .1), y .2)
+
 -- A run behind a first state, and a run without its first state.
 
 abbrev pub after : State → Run → Run
@@ -109,20 +117,19 @@ module _ (m : Module) (ok : ModuleRule m) where
   mode-rule k h = rw zero-add at (allFrom-at (ModeRule (length (m .modes))) idle 0 (m .modes) (ok .modes) k h)
 
   -- also that of the mode that a number outside the module names
-  pub period-positive : (k : ℕ) → 1 ≤ modeAt m k .period
-  period-positive k = pick (decLt k (length (m .modes)))
+  pub rule-at : (k : ℕ) → ModeRule (length (m .modes)) k (modeAt m k)
+  rule-at k = pick (decLt k (length (m .modes)))
     where
-      pick : Dec (k < length (m .modes)) → 1 ≤ modeAt m k .period
-      pick (yes h) = mode-rule k h .least
-      pick (no h) = rw (List·getD-eq-default (m .modes) idle {n = k} (omega arith)) (omega arith)
+      pick : Dec (k < length (m .modes)) → ModeRule (length (m .modes)) k (modeAt m k)
+      pick (yes h) = mode-rule k h
+      pick (no h) = rw (List·getD-eq-default (m .modes) idle {n = k} (omega arith)) (record { least = omega arith; most = omega arith; count = omega arith; tasks = tt; switches = tt; once = tt })
+
+  pub period-positive : (k : ℕ) → 1 ≤ modeAt m k .period
+  period-positive k = rule-at k .least
 
   -- no switch leads to its own mode
   no-self : (k : ℕ) (w : Switch) → List·Memᴰ w (modeAt m k .switches) → w .target ≡ k → ⊥
-  no-self k w i = pick (decLt k (length (m .modes)))
-    where
-      pick : Dec (k < length (m .modes)) → w .target ≡ k → ⊥
-      pick (yes h) = all-mem (SwitchRule (length (m .modes)) k (modeAt m k)) w (modeAt m k .switches) (mode-rule k h .switches) i .other
-      pick (no h) = absurd (List·Memᴰ·not-nil (subst (λ (o : Mode). List·Memᴰ w (o .switches)) (List·getD-eq-default (m .modes) idle {n = k} (omega arith)) i))
+  no-self k w i = all-mem (SwitchRule (length (m .modes)) k (modeAt m k)) w (modeAt m k .switches) (rule-at k .switches) i .other
 
   pub next-inside : (s t : State) → Next m s t → Inside m t
   next-inside s t (on h e) = rw e h
