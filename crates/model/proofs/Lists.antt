@@ -85,11 +85,11 @@ pub ticks-same : (f g : ℕ → ℕ) (t n : ℕ) → ((u : ℕ) → u < t + n �
 ticks-same f g t zero h = refl
 ticks-same f g t (suc n) h = omega (arith, h t (omega arith), ticks-same f g (suc t) n (λ u l. h u (omega arith)))
 
-sumOf-zero : {A : Type 0} (xs : List A) → sumOf (λ x. 0) xs ≡ 0
+pub sumOf-zero : {A : Type 0} (xs : List A) → sumOf (λ x. 0) xs ≡ 0
 sumOf-zero [] = refl
 sumOf-zero (x ∷ xs) = omega (arith, sumOf-zero xs)
 
-sumOf-add : {A : Type 0} (f g : A → ℕ) (xs : List A) → sumOf (λ x. f x + g x) xs ≡ sumOf f xs + sumOf g xs
+pub sumOf-add : {A : Type 0} (f g : A → ℕ) (xs : List A) → sumOf (λ x. f x + g x) xs ≡ sumOf f xs + sumOf g xs
 sumOf-add f g [] = refl
 sumOf-add f g (x ∷ xs) = omega (arith, sumOf-add f g xs)
 

@@ -7,4 +7,3 @@ pub mod Run
 pub mod Demand
 pub mod Verdict
 pub mod Tape
-pub mod Work

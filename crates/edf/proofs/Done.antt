@@ -1,0 +1,59 @@
+-- The ticks given to an instance: they only grow; a tick that is given to it counts; in an order of work there are none before its release; and an instance
+-- of a well-formed sheet is released before it is due. Assumes nothing.
+use mathlib.Core.Path.{_≡_, refl, _∙_, ap, subst}
+use mathlib.Core.Bool.{Bool}
+use mathlib.Core.List.{List, [], _∷_, List·Memᴰ, List·Memᴰ·head, List·Memᴰ·tail}
+use Prim.Native.Nat.{ℕ, zero, suc, _+_, _≤_, _<_}
+use native.Mathlib.Nat.{le-refl}
+use native.Mathlib.Decide.{le-ind, decLt}
+use native.Mathlib.Omega.{arith}
+use lib.ListN.{length, List·getD-eq-default}
+use borrow.Author.Tests.{eq-eqb}
+use Rattle.model.specs.Lists.{when, Nth}
+use Rattle.model.specs.Sheet.{Task, Mode, Module, Sheet}
+use Rattle.model.specs.WellFormed.{TaskRule, ModuleRule, WellFormed}
+use Rattle.model.specs.Run.{State, idle, modeOf}
+use Rattle.model.proofs.Lists.{all-mem}
+use Rattle.model.proofs.Runs.{mode-rule}
+use Rattle.edf.specs.Work.{Runs, Instance, IsInstance, Work, Slot, unused, given, hit, done, Order}
+use Rattle.edf.proofs.Once.{other-release}
+
+pub done-suc : (σ : ℕ → Slot) (x : Instance) (t : ℕ) → done σ x (suc t) ≡ done σ x t + hit (σ t) x
+unfolding done
+done-suc σ x t = refl
+
+pub done-grows : (σ : ℕ → Slot) (x : Instance) (t u : ℕ) → t ≤ u → done σ x t ≤ done σ x u
+done-grows σ x t u l = le-ind (λ m. done σ x t ≤ done σ x m) (le-refl (done σ x t)) (λ m k ih. omega (arith, done-suc σ x m)) u l
+
+pub done-given : (σ : ℕ → Slot) (x : Instance) (t : ℕ) → σ t ≡ given x → done σ x (suc t) ≡ done σ x t + 1
+done-given σ x t e = done-suc σ x t ∙ rw (e, eq-eqb (x .module-number) (x .module-number) refl, eq-eqb (x .task-number) (x .task-number) refl, eq-eqb (x .release) (x .release) refl)
+
+pub done-early : (s : Sheet) (ρs : Runs) (w : Work) (σ : ℕ → Slot) → Order s ρs w σ → (x : Instance) (t : ℕ) → t ≤ x .release → done σ x t ≡ 0
+unfolding done
+done-early s ρs w σ order x zero l = refl
+done-early s ρs w σ order x (suc t) l = omega (arith, done-early s ρs w σ order x t (omega arith), none (σ t) refl)
+  where
+    none : (p : Slot) → σ t ≡ p → hit p x ≡ 0
+    none unused e = refl
+    none (given y) e = ap (λ (b : Bool). when b 1) (other-release y x (λ q. absurd (omega (arith, order t y e .released))))
+
+nth-in : {A : Type 0} (xs : List A) (i : ℕ) (x : A) → Nth xs i x → List·Memᴰ x xs
+nth-in [] i x n = absurd n
+nth-in (y ∷ ys) zero x n = List·Memᴰ·head n
+nth-in (y ∷ ys) (suc i) x n = List·Memᴰ·tail (nth-in ys i x n)
+
+-- the rules of a task of the mode of a state
+task-rule : (m : Module) → ModuleRule m → (c : State) (i : ℕ) (task : Task) → Nth (modeOf m c .tasks) i task → TaskRule (modeOf m c .period) task
+task-rule m ok c i task n = pick (decLt (c .mode) (length (m .modes)))
+  where
+    pick : Dec (c .mode < length (m .modes)) → TaskRule (modeOf m c .period) task
+    pick (yes l) = all-mem (TaskRule (modeOf m c .period)) task (modeOf m c .tasks) (mode-rule m ok (c .mode) l .tasks) (nth-in (modeOf m c .tasks) i task n)
+    pick (no l) = absurd (subst (λ (o : Mode). Nth (o .tasks) i task) (List·getD-eq-default (m .modes) idle {n = c .mode} (omega arith)) n)
+
+pub released-before-due : (s : Sheet) → WellFormed s → (ρs : Runs) (x : Instance) → IsInstance s ρs x → x .release < x .due
+released-before-due s ok ρs x is = omega (arith, is .is-due, rule .works, rule .fits)
+  where
+    rule : TaskRule (modeOf (is .owner) (ρs (x .module-number) (x .release)) .period) (is .task)
+    rule =
+        task-rule (is .owner) (all-mem ModuleRule (is .owner) (s .modules) (ok .modules) (nth-in (s .modules) (x .module-number) (is .owner) (is .is-owner)))
+        (ρs (x .module-number) (x .release)) (x .task-number) (is .task) (is .is-task)

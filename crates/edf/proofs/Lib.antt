@@ -1,0 +1,11 @@
+pub mod Joined
+pub mod Listing
+pub mod Once
+pub mod Demands
+pub mod Done
+pub mod Late
+pub mod Clear
+pub mod Building
+pub mod Verdicts
+pub mod Meaning
+pub mod Bytes
