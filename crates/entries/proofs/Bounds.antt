@@ -11,7 +11,8 @@ use Rattle.model.specs.Demand.{StateDemand, value, moduleDemand}
 use Rattle.model.specs.Verdict.{Quick, Exact, QuickIs, ExactIs, quickSum, exactSum}
 use Rattle.model.proofs.Demands.{state-demand, module-demand}
 use Rattle.model.proofs.Verdicts.{quick-sum, exact-sum-only}
-use Rattle.entries.proofs.Reaches.{reach-keeps, first-listed, next-listed, reach-listed}
+use Rattle.model.proofs.Runs.{first-listed, next-listed}
+use Rattle.entries.proofs.Reaches.{reach-keeps, reach-listed}
 use Rattle.entries.proofs.Figures.{figure-largest}
 
 -- One module.

@@ -1,17 +1,15 @@
 -- A run of a module that keeps its rules has the state (k, d) at a tick exactly where mode k can be begun d ticks before and d is inside its
 -- period; and every state of such a run is of a listed mode. Assumes nothing.
 use mathlib.Core.Path.{_≡_, refl, sym, _∙_}
-use mathlib.Core.List.{List·Memᴰ}
 use Prim.Native.Nat.{ℕ, zero, suc, _+_, _-_, _*_, _/_, _≤_, _<_}
 use native.Mathlib.Nat.{add-zero, add-suc, zero-mul, one-le-mul, mul-mod-left, div-add-mod'}
 use native.Mathlib.Numerals.{add-one}
 use native.Mathlib.Omega.{arith}
 use lib.ListN.{length}
-use Rattle.model.specs.Sheet.{Switch, Module}
-use Rattle.model.specs.WellFormed.{SwitchRule, ModuleRule}
+use Rattle.model.specs.Sheet.{Module}
+use Rattle.model.specs.WellFormed.{ModuleRule}
 use Rattle.model.specs.Run.{State, at, first, modeAt, Inside, Listed, Next, later}
-use Rattle.model.proofs.Lists.{all-mem}
-use Rattle.model.proofs.Runs.{after, after-run, later-run, second-next, mode-rule, period-positive, next-inside, some-run}
+use Rattle.model.proofs.Runs.{first-listed, next-listed, switch-rule, after, after-run, later-run, second-next, period-positive, next-inside, some-run}
 use Rattle.entries.specs.Entry.{ReachFrom, Reach, Entry, begins}
 
 -- What a run has, by its first tick and by its last.
@@ -49,27 +47,13 @@ module _ (m : Module) (ok : ModuleRule m) where
 
   -- Listed modes.
 
-  pub first-listed : Listed m first
-  first-listed = record { mode = ok .least; time = period-positive m ok 0 }
-
-  pub switch-rule : (k : ℕ) (w : Switch) → k < length (m .modes) → List·Memᴰ w (modeAt m k .switches) → SwitchRule (length (m .modes)) k (modeAt m k) w
-  switch-rule k w h = all-mem (SwitchRule (length (m .modes)) k (modeAt m k)) w (modeAt m k .switches) (mode-rule m ok k h .switches)
-
-  pub next-listed : (s t : State) → Listed m s → Next m s t → Listed m t
-  next-listed s t h n = record { mode = listed n; time = next-inside m ok s t n }
-    where
-      listed : Next m s t → t .mode < length (m .modes)
-      listed (Next.on a e) = rw e (h .mode)
-      listed (Next.again a e) = rw e (h .mode)
-      listed (Next.switched w i a e) = rw e (switch-rule (s .mode) w (h .mode) i .there)
-
   pub reach-listed : (a : ℕ) (s : State) → Reach m a s → Listed m s
-  reach-listed = reach-keeps m (λ a. Listed m) first-listed (λ a. next-listed)
+  reach-listed = reach-keeps m (λ a. Listed m) (first-listed m ok) (λ a. next-listed m ok)
 
   pub entry-listed : (k t : ℕ) → Entry m k t → k < length (m .modes)
   entry-listed k t (begins p q) = rw p (ok .least)
   entry-listed k t (Entry.again e x q) = entry-listed k e x
-  entry-listed k t (Entry.switched j e i w x l p one fits q) = rw p at (switch-rule j w (entry-listed j e x) l .there)
+  entry-listed k t (Entry.switched j e i w x l p one fits q) = rw p at (switch-rule m ok j w l .there)
 
   -- From an entry to the states of its stay.
 
@@ -90,7 +74,7 @@ module _ (m : Module) (ok : ModuleRule m) where
       let l = period-positive m ok k in
       rw q (leave k e (modeAt m k .period) (at k 0) (begun k e x) l (omega arith) (Next.again (omega arith) refl))
   begun k t (Entry.switched j e i w x l p one fits q) =
-      let o = one-le-mul one (switch-rule j w (entry-listed j e x) l .positive) in
+      let o = one-le-mul one (switch-rule m ok j w l .positive) in
       let n : i * w .period - 1 + 1 ≡ i * w .period = omega arith in
       rw q (leave j e (i * w .period) (at k 0) (begun j e x) o fits (Next.switched w l (rw n (mul-mod-left i (w .period))) (rw p)))
 

@@ -10,9 +10,9 @@ use lib.ListN.{length}
 use Rattle.model.specs.Sheet.{Switch, Module}
 use Rattle.model.specs.WellFormed.{ModuleRule}
 use Rattle.model.specs.Run.{modeAt}
-use Rattle.model.proofs.Runs.{period-positive}
+use Rattle.model.proofs.Runs.{switch-rule, period-positive}
 use Rattle.entries.specs.Entry.{Entry, begins, Leads}
-use Rattle.entries.proofs.Reaches.{positive-factor, switch-rule, entry-listed}
+use Rattle.entries.proofs.Reaches.{positive-factor, entry-listed}
 
 pub entry-led : (m : Module) (j e k t : ℕ) → Entry m j e → Leads m j e k t → Entry m k t
 entry-led m j e k t x (Leads.again p q) = rw p (Entry.again e x q)
@@ -28,7 +28,7 @@ module _ (m : Module) (ok : ModuleRule m) where
       c = modeAt m j .period / w .period
 
       whole : c * w .period ≡ modeAt m j .period
-      whole = omega (arith, div-add-mod' (modeAt m j .period) (w .period), switch-rule m ok j w (entry-listed m ok j e x) l .divides)
+      whole = omega (arith, div-add-mod' (modeAt m j .period) (w .period), switch-rule m ok j w l .divides)
 
       pick : Dec (i * w .period ≤ modeAt m j .period) → (i - c ≤ n → 1 ≤ i - c → Entry m k (e + modeAt m j .period + (i - c) * w .period)) → Entry m k (e + i * w .period)
       pick (yes fits) below = Entry.switched j e i w x l p one fits refl
@@ -46,7 +46,7 @@ module _ (m : Module) (ok : ModuleRule m) where
 
   pub leads-later : (j e k t : ℕ) → j < length (m .modes) → Leads m j e k t → e < t
   leads-later j e k t h (Leads.again p q) = omega (arith, period-positive m ok j)
-  leads-later j e k t h (Leads.switched i w l p one fits q) = omega (arith, one-le-mul one (switch-rule m ok j w h l .positive))
+  leads-later j e k t h (Leads.switched i w l p one fits q) = omega (arith, one-le-mul one (switch-rule m ok j w l .positive))
 
   pub entry-first : (k : ℕ) → Entry m k 0 → k ≡ 0
   entry-first k (begins p q) = p

@@ -13,12 +13,12 @@ use lib.ListN.{length}
 use borrow.Author.Tests.{lt-ltb, le-ltb, ne-eqb, leb-true}
 use Rattle.model.specs.Lists.{when, sumOf}
 use Rattle.model.specs.Sheet.{Task, Module}
-use Rattle.model.specs.WellFormed.{TaskRule, SwitchRule, ModuleRule}
+use Rattle.model.specs.WellFormed.{TaskRule, ModuleRule}
 use Rattle.model.specs.Limits.{maxHorizon}
 use Rattle.model.specs.Run.{State, at, modeOf, Inside, Next, on, again, switched, releases, gainOf, gain}
 use Rattle.model.specs.Demand.{value}
 use Rattle.model.proofs.Lists.{all-mem}
-use Rattle.model.proofs.Runs.{best-next, rule-at, next-inside}
+use Rattle.model.proofs.Runs.{best-next, rule-at, switch-rule, next-inside}
 
 -- Sums.
 
@@ -139,7 +139,7 @@ module _ (m : Module) (ok : ModuleRule m) where
   within-step s t L v (on l e) h = stay s L v (rw e at h)
   within-step s t L v (again l e) h = leave s L (modeOf m s .period) v (rw l (mod-self _)) (λ k i. rule-of s k i .divides) (within-most m t L v h)
   within-step s t L v (switched w j l e) h =
-      let r = all-mem (SwitchRule (length (m .modes)) (s .mode) (modeOf m s)) w (modeOf m s .switches) (rule-at m ok (s .mode) .switches) j in
+      let r = switch-rule m ok (s .mode) w j in
       leave s L (w .period) v l (λ k i. all-mem _ k (modeOf m s .tasks) (r .multiple) i) (within-most m t L v h)
 
   -- The largest demand.

@@ -13,7 +13,7 @@ use borrow.Author.Tests.{lt-ltb, eq-eqb, ltb-true, eqb-true}
 use Rattle.model.specs.Lists.{maxOf}
 use Rattle.model.specs.Sheet.{Switch, Module}
 use Rattle.model.specs.WellFormed.{SwitchRule, ModeRule, ModuleRule}
-use Rattle.model.specs.Run.{State, at, idle, modeAt, modeOf, Inside, Next, on, again, switched, Run, later, IsRun}
+use Rattle.model.specs.Run.{State, at, first, idle, modeAt, modeOf, Inside, Listed, Next, on, again, switched, Run, later, IsRun}
 use Rattle.model.specs.Demand.{consIf, targets, nexts}
 use Rattle.model.proofs.Lists.{maxOf-reached, all-mem, allFrom-at}
 
@@ -127,14 +127,29 @@ module _ (m : Module) (ok : ModuleRule m) where
   pub period-positive : (k : ℕ) → 1 ≤ modeAt m k .period
   period-positive k = rule-at k .least
 
+  pub switch-rule : (k : ℕ) (w : Switch) → List·Memᴰ w (modeAt m k .switches) → SwitchRule (length (m .modes)) k (modeAt m k) w
+  switch-rule k w = all-mem (SwitchRule (length (m .modes)) k (modeAt m k)) w (modeAt m k .switches) (rule-at k .switches)
+
   -- no switch leads to its own mode
   no-self : (k : ℕ) (w : Switch) → List·Memᴰ w (modeAt m k .switches) → w .target ≡ k → ⊥
-  no-self k w i = all-mem (SwitchRule (length (m .modes)) k (modeAt m k)) w (modeAt m k .switches) (rule-at k .switches) i .other
+  no-self k w i = switch-rule k w i .other
 
   pub next-inside : (s t : State) → Next m s t → Inside m t
   next-inside s t (on h e) = rw e h
   next-inside s t (again h e) = rw e (period-positive (s .mode))
   next-inside s t (switched w k h e) = rw e (period-positive (w .target))
+
+  -- no tick leads out of the listed modes
+  pub next-mode : (s t : State) → s .mode < length (m .modes) → Next m s t → t .mode < length (m .modes)
+  next-mode s t h (on a e) = rw e h
+  next-mode s t h (again a e) = rw e h
+  next-mode s t h (switched w i a e) = rw e (switch-rule (s .mode) w i .there)
+
+  pub first-listed : Listed m first
+  first-listed = record { mode = ok .least; time = period-positive 0 }
+
+  pub next-listed : (s t : State) → Listed m s → Next m s t → Listed m t
+  next-listed s t h n = record { mode = next-mode s t (h .mode) n; time = next-inside s t n }
 
   -- two different states after one tick have different modes
   pub next-apart : (s t u : State) → Next m s t → Next m s u → t .mode ≡ u .mode → t ≡ u

@@ -38,7 +38,7 @@ notAfter-first m a (suc b) s ρ h = inl h
 -- The chosen state.
 
 -- x has at least the value of y, and of two alike the smaller mode
-abbrev Beats : (State → ℕ) → State → State → Type 0
+abbrev pub Beats : (State → ℕ) → State → State → Type 0
 Beats f x y = (f y ≤ f x) × (f y ≡ f x → x .mode ≤ y .mode)
 
 beats-trans : (f : State → ℕ) (x y z : State) → Beats f x y → Beats f y z → Beats f x z
@@ -77,15 +77,15 @@ choose-best f x (y ∷ l) z k = pick (choose f y l) (better-best f x (choose f y
     pick c (inr h) below (List·Memᴰ·tail j) = rw (h .0) (below j)
 
 -- where the list has a state, the chosen one is of the list and beats each of it
-chosen-in : (f : State → ℕ) (d z : State) (l : List State) → List·Memᴰ z l → List·Memᴰ (chosen f d l) l
+pub chosen-in : (f : State → ℕ) (d z : State) (l : List State) → List·Memᴰ z l → List·Memᴰ (chosen f d l) l
 chosen-in f d z [] h = absurd (List·Memᴰ·not-nil h)
 chosen-in f d z (x ∷ l) h = choose-in f x l
 
-chosen-best : (f : State → ℕ) (d z : State) (l : List State) → List·Memᴰ z l → Beats f (chosen f d l) z
+pub chosen-best : (f : State → ℕ) (d z : State) (l : List State) → List·Memᴰ z l → Beats f (chosen f d l) z
 chosen-best f d z [] h = absurd (List·Memᴰ·not-nil h)
 chosen-best f d z (x ∷ l) h = choose-best f x l z h
 
-chosen-max : (f : State → ℕ) (d z : State) (l : List State) → List·Memᴰ z l → f (chosen f d l) ≡ maxOf f l
+pub chosen-max : (f : State → ℕ) (d z : State) (l : List State) → List·Memᴰ z l → f (chosen f d l) ≡ maxOf f l
 chosen-max f d z l h =
     let y = maxOf-reached f z l h in
     le-antisymm (le-maxOf f (chosen f d l) l (chosen-in f d z l h)) (rw (← (y .2)) (chosen-best f d (y .0) l (y .1) .0))

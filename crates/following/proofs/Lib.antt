@@ -1,0 +1,5 @@
+pub mod Opens
+pub mod Lowest
+pub mod Choice
+pub mod Ticks
+pub mod Tapes
