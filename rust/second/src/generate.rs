@@ -1,0 +1,477 @@
+//! Made-up sheets: well-formed ones of a given shape, and damaged ones. All
+//! come from a seed, and the same seed always gives the same sheets.
+
+use crate::sheet::*;
+
+/// A pseudo-random generator (splitmix64).
+#[derive(Clone, Debug)]
+pub struct Rng(u64);
+
+impl Rng {
+    /// A generator with this seed.
+    pub fn new(seed: u64) -> Rng {
+        Rng(seed)
+    }
+
+    /// The next 64 bits.
+    pub fn bits(&mut self) -> u64 {
+        self.0 = self.0.wrapping_add(0x9E37_79B9_7F4A_7C15);
+        let mut z = self.0;
+        z = (z ^ (z >> 30)).wrapping_mul(0xBF58_476D_1CE4_E5B9);
+        z = (z ^ (z >> 27)).wrapping_mul(0x94D0_49BB_1331_11EB);
+        z ^ (z >> 31)
+    }
+
+    /// A number below `bound`, which must not be 0.
+    pub fn below(&mut self, bound: usize) -> usize {
+        (self.bits() % bound as u64) as usize
+    }
+
+    /// A number from `low` to `high`, both included.
+    pub fn between(&mut self, low: usize, high: usize) -> usize {
+        low + self.below(high - low + 1)
+    }
+
+    /// True in so many of a hundred cases.
+    pub fn chance(&mut self, percent: usize) -> bool {
+        self.below(100) < percent
+    }
+
+    /// One of the items, which must not be none.
+    pub fn pick<'a, T>(&mut self, items: &'a [T]) -> &'a T {
+        &items[self.below(items.len())]
+    }
+}
+
+/// The shape of the sheets to make. Pairs are the least and the most.
+#[derive(Clone, Debug)]
+pub struct Shape {
+    pub horizon: (usize, usize),
+    pub modules: (usize, usize),
+    pub modes: (usize, usize),
+    /// Tasks in a mode.
+    pub tasks: (usize, usize),
+    /// Switches in a mode; there are never more than other modes.
+    pub switches: (usize, usize),
+    /// The mode periods to choose from.
+    pub periods: Vec<u16>,
+    /// Task periods are at least this where the mode period allows it.
+    pub shortest_task_period: u16,
+    /// The LET is at least this share of the task period, in percent.
+    pub let_percent: usize,
+    /// The cost is at most the LET divided by this, and at least 1.
+    pub cost_divisor: usize,
+}
+
+impl Shape {
+    /// Sheets small enough for the literal way.
+    pub fn small() -> Shape {
+        Shape {
+            horizon: (1, 11),
+            modules: (1, 3),
+            modes: (1, 3),
+            tasks: (0, 3),
+            switches: (0, 2),
+            periods: (1..=8).collect(),
+            shortest_task_period: 1,
+            let_percent: 0,
+            cost_divisor: 1,
+        }
+    }
+
+    /// Small sheets that are seldom over at once: few, cheap tasks.
+    pub fn small_light() -> Shape {
+        Shape {
+            horizon: (4, 14),
+            tasks: (0, 1),
+            periods: vec![2, 3, 4, 5, 6, 8, 10, 12],
+            shortest_task_period: 3,
+            let_percent: 40,
+            cost_divisor: 1,
+            ..Shape::small()
+        }
+    }
+
+    /// Sheets of some tens of ticks and states.
+    pub fn medium() -> Shape {
+        Shape {
+            horizon: (20, 90),
+            modules: (1, 4),
+            modes: (1, 4),
+            tasks: (0, 2),
+            switches: (0, 3),
+            periods: vec![4, 6, 8, 9, 10, 12, 15, 16, 20, 24, 30],
+            shortest_task_period: 4,
+            let_percent: 50,
+            cost_divisor: 4,
+        }
+    }
+
+    /// Eight modules with periods as they are in use, at horizon 2,000.
+    pub fn realistic() -> Shape {
+        Shape {
+            horizon: (2000, 2000),
+            modules: (8, 8),
+            modes: (2, 4),
+            tasks: (1, 2),
+            switches: (1, 2),
+            periods: vec![100, 200, 250, 400, 500, 1000],
+            shortest_task_period: 50,
+            let_percent: 80,
+            cost_divisor: 8,
+        }
+    }
+
+    /// Any sheet within the limits, large ones among them.
+    pub fn wide() -> Shape {
+        Shape {
+            horizon: (1, 2000),
+            modules: (1, 8),
+            modes: (1, 8),
+            tasks: (0, 16),
+            switches: (0, 7),
+            periods: (1..=1024).collect(),
+            shortest_task_period: 1,
+            let_percent: 0,
+            cost_divisor: 1,
+        }
+    }
+
+    /// Any number of parts within the limits, but longer task periods and lower
+    /// costs, so that not all are over at once.
+    pub fn wide_light() -> Shape {
+        Shape {
+            horizon: (200, 2000),
+            tasks: (0, 3),
+            switches: (0, 3),
+            shortest_task_period: 40,
+            let_percent: 60,
+            cost_divisor: 7,
+            ..Shape::wide()
+        }
+    }
+
+    /// The longest sheets: every limit is met, 3,624 bytes.
+    pub fn fullest() -> Shape {
+        Shape {
+            horizon: (2000, 2000),
+            modules: (8, 8),
+            modes: (8, 8),
+            tasks: (4, 4),
+            switches: (2, 2),
+            periods: vec![240, 360, 480, 720, 840, 960, 1000, 1008, 1024],
+            shortest_task_period: 120,
+            let_percent: 50,
+            cost_divisor: 9,
+        }
+    }
+}
+
+/// A well-formed sheet of this shape.
+pub fn sheet(rng: &mut Rng, shape: &Shape) -> Sheet {
+    let horizon = rng.between(shape.horizon.0, shape.horizon.1) as u16;
+    let mut sheet = Sheet { horizon, modules: Vec::new() };
+    for _ in 0..rng.between(shape.modules.0, shape.modules.1) {
+        let modes = rng.between(shape.modes.0, shape.modes.1);
+        let Counts { tasks, switches, .. } = sheet.counts();
+        let mut left = (MOST_TASKS - tasks, MOST_SWITCHES - switches);
+        let module = (0..modes).map(|own| mode(rng, shape, own, modes, &mut left)).collect();
+        sheet.modules.push(Module { modes: module });
+    }
+    sheet
+}
+
+/// A mode of a module of so many modes. `left` is how many tasks and switches
+/// the sheet may still have.
+fn mode(rng: &mut Rng, shape: &Shape, own: usize, modes: usize, left: &mut (usize, usize)) -> Mode {
+    let period = *rng.pick(&shape.periods);
+    let mut targets: Vec<usize> = (0..modes).filter(|&target| target != own).collect();
+    let wanted = rng.between(shape.switches.0, shape.switches.1);
+    let switches = wanted.min(targets.len()).min(left.1);
+    let tasks = rng.between(shape.tasks.0, shape.tasks.1).min(left.0);
+    *left = (left.0 - tasks, left.1 - switches);
+    // With a switch, the task periods divide a grain that divides the period.
+    let long_enough = |d: &u16| *d >= shape.shortest_task_period.min(period);
+    let grains: Vec<u16> = divisors(period).into_iter().filter(long_enough).collect();
+    let grain = if switches > 0 { *rng.pick(&grains) } else { period };
+    let tasks = (0..tasks).map(|_| task(rng, shape, grain)).collect::<Vec<_>>();
+    let fits = |d: &u16| tasks.iter().all(|t: &Task| d.is_multiple_of(t.period)) && long_enough(d);
+    let choices: Vec<u16> = divisors(period).into_iter().filter(fits).collect();
+    let mut switch = || Switch {
+        target: targets.swap_remove(rng.below(targets.len())) as u16,
+        period: *rng.pick(&choices),
+    };
+    let switches = (0..switches).map(|_| switch()).collect();
+    Mode { period, tasks, switches }
+}
+
+/// A task whose period divides the grain.
+fn task(rng: &mut Rng, shape: &Shape, grain: u16) -> Task {
+    let least = shape.shortest_task_period.min(grain);
+    let choices: Vec<u16> = divisors(grain).into_iter().filter(|&d| d >= least).collect();
+    let period = usize::from(*rng.pick(&choices));
+    let let_ticks = rng.between((period * shape.let_percent).div_ceil(100).max(1), period);
+    let offset = rng.between(0, period - let_ticks);
+    let cost = rng.between(1, (let_ticks / shape.cost_divisor).max(1));
+    let [offset, cost, let_ticks, period] = [offset, cost, let_ticks, period].map(|v| v as u16);
+    Task { offset, cost, let_ticks, period }
+}
+
+/// The divisors of a number, ascending.
+fn divisors(number: u16) -> Vec<u16> {
+    (1..=number).filter(|&d| number.is_multiple_of(d)).collect()
+}
+
+/// The ways to damage a sheet.
+#[derive(Clone, Copy, Debug, PartialEq, Eq)]
+pub enum Damage {
+    /// Cut at any byte.
+    Truncate,
+    /// Any byte changed.
+    ChangeByte,
+    /// A field pushed to the edge of its range or out of it.
+    PushField,
+    /// A record left out.
+    RemoveRecord,
+    /// A record put twice.
+    DoubleRecord,
+    /// Two records that change places.
+    SwapRecords,
+    /// Two records' marks that change places, the other bytes staying.
+    ExchangeMarks,
+    /// A mark put in place of another, the other bytes staying.
+    ReplaceMark,
+    /// One to sixteen bytes after EN, or a whole record.
+    Append,
+    /// Nine modules.
+    NinthModule,
+    /// A mode with 17 tasks.
+    SeventeenthTask,
+    /// A sheet with 257 tasks, none of its modes with more than 16.
+    Task257,
+    /// A sheet with 129 switches.
+    Switch129,
+    /// A module's number of modes that is not the number that follows.
+    ModeCount,
+    /// Two to four of the others, one after the other.
+    Several,
+}
+
+impl Damage {
+    /// All ways.
+    pub const ALL: [Damage; 15] = [
+        Damage::Truncate,
+        Damage::ChangeByte,
+        Damage::PushField,
+        Damage::RemoveRecord,
+        Damage::DoubleRecord,
+        Damage::SwapRecords,
+        Damage::ExchangeMarks,
+        Damage::ReplaceMark,
+        Damage::Append,
+        Damage::NinthModule,
+        Damage::SeventeenthTask,
+        Damage::Task257,
+        Damage::Switch129,
+        Damage::ModeCount,
+        Damage::Several,
+    ];
+}
+
+/// The bytes of a sheet, damaged in this way. Most are refused, but not all: a
+/// byte may be changed to another good value, say.
+pub fn damaged(rng: &mut Rng, sheet: &Sheet, damage: Damage) -> Vec<u8> {
+    match damage {
+        Damage::NinthModule => encode(&ninth_module(rng, sheet)),
+        Damage::SeventeenthTask => encode(&seventeenth_task(rng, sheet)),
+        Damage::Task257 => encode(&task_257(sheet)),
+        Damage::Switch129 => encode(&switch_129(sheet)),
+        Damage::Several => several(rng, sheet),
+        bytewise => damage_bytes(rng, &encode(sheet), bytewise),
+    }
+}
+
+/// Several damages, the first of any kind, the rest on the bytes it leaves.
+fn several(rng: &mut Rng, sheet: &Sheet) -> Vec<u8> {
+    let first = *rng.pick(&Damage::ALL[..14]);
+    let mut bytes = damaged(rng, sheet, first);
+    for _ in 0..rng.between(1, 3) {
+        let next = *rng.pick(&Damage::ALL[..9]);
+        bytes = damage_bytes(rng, &bytes, next);
+    }
+    bytes
+}
+
+/// The bytes, split into records where they can be; what cannot is one last
+/// piece.
+pub fn split(bytes: &[u8]) -> Vec<Vec<u8>> {
+    let mut pieces = Vec::new();
+    let mut rest = bytes;
+    while !rest.is_empty() {
+        let len = read_record(rest).map_or(rest.len(), |record| record.mark.record_len());
+        pieces.push(rest[..len].to_vec());
+        rest = &rest[len..];
+    }
+    pieces
+}
+
+/// Damages bytes that need not be a good sheet any more.
+fn damage_bytes(rng: &mut Rng, bytes: &[u8], damage: Damage) -> Vec<u8> {
+    let mut pieces = split(bytes);
+    if pieces.is_empty() {
+        return vec![rng.bits() as u8];
+    }
+    let (one, two) = (rng.below(pieces.len()), rng.below(pieces.len()));
+    match damage {
+        Damage::Truncate => return bytes[..rng.below(bytes.len())].to_vec(),
+        Damage::ChangeByte => return change_byte(rng, bytes),
+        Damage::PushField => push_field(rng, &mut pieces[one]),
+        Damage::RemoveRecord => drop(pieces.remove(one)),
+        Damage::DoubleRecord => pieces.insert(one, pieces[one].clone()),
+        Damage::SwapRecords => pieces.swap(one, two),
+        Damage::ExchangeMarks => exchange_marks(&mut pieces, one, two),
+        Damage::ReplaceMark => put_mark(&mut pieces[one], rng.pick(&Mark::ALL).bytes()),
+        Damage::ModeCount => wrong_mode_count(rng, &mut pieces),
+        _ => pieces.push(appended(rng)),
+    }
+    pieces.concat()
+}
+
+/// Changes one byte to another value, often to a near one.
+fn change_byte(rng: &mut Rng, bytes: &[u8]) -> Vec<u8> {
+    let mut changed = bytes.to_vec();
+    let place = rng.below(bytes.len());
+    let any = rng.between(1, 255) as u8;
+    let by = *rng.pick(&[1, 255, 128, any]);
+    changed[place] = changed[place].wrapping_add(by);
+    changed
+}
+
+/// Sets one field of a record to a value at or past an edge of some range.
+fn push_field(rng: &mut Rng, piece: &mut [u8]) {
+    let fields = (piece.len() / 2).saturating_sub(1);
+    if fields == 0 {
+        return;
+    }
+    let at = 2 + 2 * rng.below(fields);
+    let old = u16::from_le_bytes([piece[at], piece[at + 1]]);
+    let near = [old.wrapping_add(1), old.wrapping_sub(1), old.wrapping_mul(2), old / 2];
+    let edges = [0, 1, 7, 8, 9, 1024, 1025, 2000, 2001, 32_768, 65_535];
+    let new = if rng.chance(50) { *rng.pick(&near) } else { *rng.pick(&edges) };
+    piece[at..at + 2].copy_from_slice(&new.to_le_bytes());
+}
+
+/// Puts a mark over a piece's first two bytes, if it has two.
+fn put_mark(piece: &mut [u8], mark: [u8; 2]) {
+    if let Some(front) = piece.get_mut(..2) {
+        front.copy_from_slice(&mark);
+    }
+}
+
+/// Exchanges two pieces' marks.
+fn exchange_marks(pieces: &mut [Vec<u8>], one: usize, two: usize) {
+    if let (&[a, b, ..], &[c, d, ..]) = (&pieces[one][..], &pieces[two][..]) {
+        put_mark(&mut pieces[one], [c, d]);
+        put_mark(&mut pieces[two], [a, b]);
+    }
+}
+
+/// Changes the number of modes some ML states.
+fn wrong_mode_count(rng: &mut Rng, pieces: &mut [Vec<u8>]) {
+    let opens = |piece: &&mut Vec<u8>| piece.starts_with(b"ML") && piece.len() == 4;
+    let mut openings: Vec<&mut Vec<u8>> = pieces.iter_mut().filter(opens).collect();
+    if openings.is_empty() {
+        return;
+    }
+    let index = rng.below(openings.len());
+    let by = *rng.pick(&[1, 2, 255, 254]);
+    openings[index][2] = openings[index][2].wrapping_add(by);
+}
+
+/// Bytes to put at the end: a record of some kind, or any bytes.
+fn appended(rng: &mut Rng) -> Vec<u8> {
+    let len = rng.between(1, 16);
+    let mut bytes: Vec<u8> = (0..len).map(|_| rng.bits() as u8).collect();
+    if rng.chance(40) {
+        put_mark(&mut bytes, rng.pick(&Mark::ALL).bytes());
+    }
+    bytes
+}
+
+/// Records with any marks in any order, most fields being small. HZ opens, so
+/// that more than the first record is judged.
+pub fn any_records(rng: &mut Rng, count: usize) -> Vec<u8> {
+    let mut bytes = b"HZ\x08\0".to_vec();
+    for before in 1..=count {
+        let mark = *rng.pick(&Mark::ALL);
+        bytes.extend(mark.bytes());
+        for _ in 0..mark.fields() {
+            let small = *rng.pick(&[0, 1, 1, 1, 2, 2, 4, 8]);
+            let field = if mark == Mark::En && rng.chance(80) { before as u16 } else { small };
+            bytes.extend(field.to_le_bytes());
+        }
+    }
+    bytes
+}
+
+/// The least task there is; its period divides every period.
+const LEAST_TASK: Task = Task { offset: 0, cost: 1, let_ticks: 1, period: 1 };
+
+/// Nine modules or more, by putting the sheet's own again.
+fn ninth_module(rng: &mut Rng, sheet: &Sheet) -> Sheet {
+    let mut more = sheet.clone();
+    let bare = Module { modes: vec![Mode { period: 1, ..Mode::default() }] };
+    more.modules.resize(9 + rng.below(2), bare);
+    more
+}
+
+/// One mode with 17 tasks or more.
+fn seventeenth_task(rng: &mut Rng, sheet: &Sheet) -> Sheet {
+    let mut more = sheet.clone();
+    let modules = more.modules.len();
+    let module = &mut more.modules[rng.below(modules)];
+    let modes = module.modes.len();
+    let tasks = &mut module.modes[rng.below(modes)].tasks;
+    tasks.resize(17 + rng.below(2), LEAST_TASK);
+    more
+}
+
+/// The sheet with eight modules of eight modes: new modes have period 1.
+fn filled(sheet: &Sheet) -> Sheet {
+    let mut full = sheet.clone();
+    full.modules.resize(MOST_MODULES, Module::default());
+    for module in &mut full.modules {
+        module.modes.resize(MOST_MODES, Mode { period: 1, ..Mode::default() });
+    }
+    full
+}
+
+/// A sheet with 257 tasks, the new ones in the modes from the front.
+fn task_257(sheet: &Sheet) -> Sheet {
+    let mut full = filled(sheet);
+    let mut lacking = (MOST_TASKS + 1).saturating_sub(full.counts().tasks);
+    for mode in full.modules.iter_mut().flat_map(|module| &mut module.modes) {
+        let more = lacking.min(MOST_TASKS_IN_MODE.saturating_sub(mode.tasks.len()));
+        mode.tasks.extend(vec![LEAST_TASK; more]);
+        lacking -= more;
+    }
+    full
+}
+
+/// A sheet with 129 switches, the new ones at the ends of the mode periods.
+fn switch_129(sheet: &Sheet) -> Sheet {
+    let mut full = filled(sheet);
+    let mut lacking = (MOST_SWITCHES + 1).saturating_sub(full.counts().switches);
+    for module in &mut full.modules {
+        for (own, mode) in module.modes.iter_mut().enumerate() {
+            for target in (0..MOST_MODES as u16).filter(|&t| usize::from(t) != own) {
+                let named = mode.switches.iter().any(|s| s.target == target);
+                if lacking > 0 && !named {
+                    mode.switches.push(Switch { target, period: mode.period });
+                    lacking -= 1;
+                }
+            }
+        }
+    }
+    full
+}
