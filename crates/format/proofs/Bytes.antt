@@ -20,7 +20,7 @@ use Rattle.format.proofs.Judging.{markOf-recordAt}
 
 -- Lists, one after the other.
 
-joined-append : {A B : Type 0} (f : A → List B) (xs ys : List A) → joined f (xs ++ ys) ≡ joined f xs ++ joined f ys
+pub joined-append : {A B : Type 0} (f : A → List B) (xs ys : List A) → joined f (xs ++ ys) ≡ joined f xs ++ joined f ys
 joined-append f [] ys = refl
 joined-append f (x ∷ xs) ys = rw (joined-append f xs ys, append-assoc (f x) (joined f xs) (joined f ys))
 
@@ -29,7 +29,7 @@ joined-reverse-cons f x xs = rw (reverse-cons x xs, joined-append f (reverse xs)
 
 -- The number of bytes.
 
-length-recordBytes : (r : Record) → length (recordBytes r) ≡ size (markOf r)
+pub length-recordBytes : (r : Record) → length (recordBytes r) ≡ size (markOf r)
 unfolding recordBytes
 length-recordBytes (hz h) = refl
 length-recordBytes (ml n) = refl
@@ -151,7 +151,7 @@ coded-mark EN = refl
 field-value : (v : ℕ) → v % 256 + 256 * (v / 256) ≡ v
 field-value v = omega arith
 
-recordAt-first : (r : Record) (more : List ℕ) → recordAt (markOf r) (recordBytes r ++ more) 0 ≡ r
+pub recordAt-first : (r : Record) (more : List ℕ) → recordAt (markOf r) (recordBytes r ++ more) 0 ≡ r
 unfolding recordBytes
 recordAt-first (hz h) more = rw (field-value h)
 recordAt-first (ml n) more = rw (field-value n)

@@ -8,12 +8,12 @@ use lib.Dec.{leb, ltb, eqb}
 use lib.ListN.{length, length-reverse}
 use borrow.Author.Tests.{ltb-true, leb-true, eqb-true, eqb-false, not-true}
 use Rattle.model.specs.Lists.{sumOf, All, AllFrom, Distinct}
-use Rattle.model.specs.Sheet.{Task, Switch, Mode, Module, Sheet, counts, tasksIn, switchesIn}
+use Rattle.model.specs.Sheet.{Task, Switch, Mode, Module, Sheet, Counts, counts, modesIn, tasksIn, switchesIn}
 use Rattle.model.specs.Limits.{maxHorizon, maxModes, maxModePeriod, maxModeTasks}
 use Rattle.model.specs.WellFormed.{TaskRule, SwitchRule, ModeRule, ModuleRule, WellFormed}
 use Rattle.format.specs.Record.{Record, hz, ml, md, tk, sw, en}
 use Rattle.format.specs.Encoding.{joined, modeRecords, moduleRecords, recordsBeforeEnd, records}
-use Rattle.format.specs.Rules.{ofTK, ofSW, taken, modulesRead, stated, seen, modePeriod, tasksRead, switchesRead, isEmpty, ended, ordered, between, divides, eachDivides, named, taskRuled, switchRuled, ruled, Sound, AllSound}
+use Rattle.format.specs.Rules.{ofMD, ofTK, ofSW, taken, modulesRead, stated, seen, modePeriod, tasksRead, switchesRead, isEmpty, ended, ordered, between, divides, eachDivides, named, taskRuled, switchRuled, ruled, Sound, AllSound}
 use Rattle.format.specs.Judgement.{gather, gathered}
 use Rattle.format.proofs.Sizes.{small}
 
@@ -127,6 +127,7 @@ record Gathers (rs : List Record) (ks : List Task) (ws : List Switch) (os : List
   horizon : (1 ≤ s .horizon) × (s .horizon ≤ maxHorizon)
   rules : All ModuleRule (s .modules)
   modules : length (s .modules) ≡ modulesRead rs + length ms
+  modes : counts s .modes ≡ length (taken ofMD rs) + (length os + sumOf modesIn ms)
   tasks : counts s .tasks ≡ length (taken ofTK rs) + (length ks + (modeTasks os + sumOf tasksIn ms))
   switches : counts s .switches ≡ length (taken ofSW rs) + (length ws + (modeSwitches os + sumOf switchesIn ms))
 
@@ -143,7 +144,7 @@ no-mode-kept rs os ms a o m =
 -- HZ is the first, and only modules are pending.
 at-hz : (h : ℕ) (ms : List Module) → Sound [] (hz h) → All ModuleRule ms → Gathers (hz h ∷ []) [] [] [] ms (record { horizon = h; modules = ms })
 unfolding ruled recordsBeforeEnd
-at-hz h ms s m = record { order = refl; horizon = inside 1 maxHorizon h (s .value); rules = m; modules = omega arith; tasks = omega arith; switches = omega arith }
+at-hz h ms s m = record { order = refl; horizon = inside 1 maxHorizon h (s .value); rules = m; modules = omega arith; modes = omega arith; tasks = omega arith; switches = omega arith }
 
 -- ML: the modes that are pending are its module, as many as it states.
 module _ (n : ℕ) (rs : List Record) (os : List Mode) (ms : List Module) (s : Sheet) where
@@ -159,7 +160,7 @@ module _ (n : ℕ) (rs : List Record) (os : List Mode) (ms : List Module) (s : S
       let r : (1 ≤ n) × (n ≤ maxModes) = inside 1 maxModes n (a .2 .value) in
       let rule : ModuleRule closedModule = record { least = omega arith; most = omega arith; modes = rw m (v .modes) } in
       let g = next (no-mode rs [] (not-true _ (o .0)) (a .1) (omega (arith, eqb-true))) (no-mode-kept rs [] (closedModule ∷ ms) (a .0) tt (rule, v .modules)) in
-      record { order = rw m at (g .order); horizon = g .horizon; rules = g .rules; modules = omega (arith, g .modules); tasks = omega (arith, g .tasks); switches = omega (arith, g .switches) }
+      record { order = rw m at (g .order); horizon = g .horizon; rules = g .rules; modules = omega (arith, g .modules); modes = omega (arith, g .modes); tasks = omega (arith, g .tasks); switches = omega (arith, g .switches) }
 
 -- MD: the tasks and switches that are pending are its mode.
 module _ (p : ℕ) (rs : List Record) (ks : List Task) (ws : List Switch) (os : List Mode) (ms : List Module) (s : Sheet) where
@@ -178,7 +179,7 @@ module _ (p : ℕ) (rs : List Record) (ks : List Task) (ws : List Switch) (os : 
       let rule : ModeRule (stated rs) (seen rs) closedMode =
       record { least = r .0; most = r .1; count = omega (arith, v .count); tasks = v .tasks; switches = all-to switch-closed ws (v .switches); once = v .once } in
       let g = next (no-mode rs (closedMode ∷ os) (begun-by rs (omega arith)) (a .1) (omega (arith, f .modes))) (no-mode-kept rs (closedMode ∷ os) ms (a .0) (rule, v .modes) (v .modules)) in
-      record { order = simp append-assoc at (g .order); horizon = g .horizon; rules = g .rules; modules = g .modules; tasks = omega (arith, g .tasks); switches = omega (arith, g .switches) }
+      record { order = simp append-assoc at (g .order); horizon = g .horizon; rules = g .rules; modules = g .modules; modes = omega (arith, g .modes); tasks = omega (arith, g .tasks); switches = omega (arith, g .switches) }
 
 -- TK: one task more is pending.
 module _ (k : Task) (rs : List Record) (ks : List Task) (ws : List Switch) (os : List Mode) (ms : List Module) (s : Sheet) where
@@ -213,7 +214,7 @@ module _ (k : Task) (rs : List Record) (ks : List Task) (ws : List Switch) (os :
         modules = v .modules;
       } in
       let g = next fits kept in
-      record { order = g .order; horizon = g .horizon; rules = g .rules; modules = g .modules; tasks = omega (arith, g .tasks); switches = g .switches }
+      record { order = g .order; horizon = g .horizon; rules = g .rules; modules = g .modules; modes = g .modes; tasks = omega (arith, g .tasks); switches = g .switches }
 
 -- SW: one switch more is pending, with a target of its own, and no task.
 module _ (w : Switch) (rs : List Record) (ws : List Switch) (os : List Mode) (ms : List Module) (s : Sheet) where
@@ -253,7 +254,7 @@ module _ (w : Switch) (rs : List Record) (ws : List Switch) (os : List Mode) (ms
         modules = v .modules;
       } in
       let g = next fits kept in
-      record { order = g .order; horizon = g .horizon; rules = g .rules; modules = g .modules; tasks = g .tasks; switches = omega (arith, g .switches) }
+      record { order = g .order; horizon = g .horizon; rules = g .rules; modules = g .modules; modes = g .modes; tasks = g .tasks; switches = omega (arith, g .switches) }
 
 -- All of them. A list that is pending where its mark cannot be next contradicts the order.
 gathers : (rs : List Record) (ks : List Task) (ws : List Switch) (os : List Mode) (ms : List Module) → AllSound rs → Fits rs ks ws os → Kept rs ks ws os ms → Gathers rs ks ws os ms (gather rs ks ws os ms)
@@ -272,6 +273,16 @@ gathers (tk k ∷ rs) ks ws os ms a f v = at-tk k rs ks ws os ms _ a f v (gather
 gathers (sw w ∷ rs) (k ∷ ks) ws os ms a f v = absurd (false≢true (f .tasks .1))
 gathers (sw w ∷ rs) [] ws os ms a f v = at-sw w rs ws os ms _ a f v (gathers rs [] (w ∷ ws) os ms (a .0))
 gathers (en n ∷ rs) ks ws os ms a f v = absurd (false≢true (sym (f .open-end)))
+
+-- how many of each have been read
+abbrev pub countsRead : List Record → Counts
+countsRead rs =
+    record {
+      modules = modulesRead rs;
+      modes = length (taken ofMD rs);
+      tasks = length (taken ofTK rs);
+      switches = length (taken ofSW rs);
+    }
 
 -- The laws: at EN nothing is pending.
 module _ (rs : List Record) (n : ℕ) (a : AllSound (en n ∷ rs)) where
@@ -307,3 +318,12 @@ module _ (rs : List Record) (n : ℕ) (a : AllSound (en n ∷ rs)) where
         tasks-most = omega (arith, g .tasks, w .tasks);
         switches-most = omega (arith, g .switches, w .switches);
       }
+
+  pub gathered-counts : counts (gathered (en n ∷ rs)) ≡ countsRead rs
+  gathered-counts =
+      let g = all-gathered in
+      let modules : counts (gathered (en n ∷ rs)) .modules ≡ modulesRead rs = omega (arith, g .modules) in
+      let modes : counts (gathered (en n ∷ rs)) .modes ≡ length (taken ofMD rs) = omega (arith, g .modes) in
+      let tasks : counts (gathered (en n ∷ rs)) .tasks ≡ length (taken ofTK rs) = omega (arith, g .tasks) in
+      let switches : counts (gathered (en n ∷ rs)) .switches ≡ length (taken ofSW rs) = omega (arith, g .switches) in
+      rw (modules, modes, tasks, switches)

@@ -25,26 +25,26 @@ markOf-recordAt TK bs p = refl
 markOf-recordAt SW bs p = refl
 markOf-recordAt EN bs p = refl
 
-tested-short : (bs : List ℕ) (p : ℕ) (rs : List Record) → length bs < p + 2 → tested bs p rs ≡ fault 1
+pub tested-short : (bs : List ℕ) (p : ℕ) (rs : List Record) → length bs < p + 2 → tested bs p rs ≡ fault 1
 unfolding tested
 tested-short bs p rs l = rw (lt-leb (p + 2) (length bs) l)
 
-tested-marked : (bs : List ℕ) (p : ℕ) (rs : List Record) → p + 2 ≤ length bs → tested bs p rs ≡ testedMark (markAt bs p) bs p rs
+pub tested-marked : (bs : List ℕ) (p : ℕ) (rs : List Record) → p + 2 ≤ length bs → tested bs p rs ≡ testedMark (markAt bs p) bs p rs
 unfolding tested
 tested-marked bs p rs l = rw (le-leb (p + 2) (length bs) l)
 
-tested-cut : (bs : List ℕ) (p : ℕ) (rs : List Record) (m : Mark) → p + 2 ≤ length bs → markAt bs p ≡ some m → length bs < p + size m → tested bs p rs ≡ fault 1
+pub tested-cut : (bs : List ℕ) (p : ℕ) (rs : List Record) (m : Mark) → p + 2 ≤ length bs → markAt bs p ≡ some m → length bs < p + size m → tested bs p rs ≡ fault 1
 tested-cut bs p rs m l e c = tested-marked bs p rs l ∙ rw (e, lt-leb (p + size m) (length bs) c)
 
 -- a whole record is left to its order, counts and values
-tested-whole : (bs : List ℕ) (p : ℕ) (rs : List Record) (m : Mark) → Whole bs p m
+pub tested-whole : (bs : List ℕ) (p : ℕ) (rs : List Record) (m : Mark) → Whole bs p m
     → tested bs p rs ≡ orFault (ordered m rs) 3 (orFault (counted m rs) 4 (orFault (ruled (recordAt m bs p) rs) (fieldNumber m) (sound (recordAt m bs p))))
 tested-whole bs p rs m w =
     let fits : p + size m ≤ length bs = w .fits in
     tested-marked bs p rs (omega arith) ∙ rw (w .mark, le-leb (p + size m) (length bs) fits)
 
 -- the answer of the test says: refused here, or one sound record more
-abbrev Next : List ℕ → List Record → Tested → Type 0
+abbrev pub Next : List ℕ → List Record → Tested → Type 0
 Next bs rs (fault n) = Refusal bs n (bytesIn rs)
 Next bs rs (sound r) = Front bs (r ∷ rs)
 
@@ -55,7 +55,7 @@ sound-next bs rs m f g w o c v = (f, g, rw same w, ap (λ (k : Mark). recordAt k
     same : markOf (recordAt m bs (bytesIn rs)) ≡ m
     same = markOf-recordAt m bs (bytesIn rs)
 
-tested-next : (bs : List ℕ) (rs : List Record) → Front bs rs → ended rs ≡ false → Next bs rs (tested bs (bytesIn rs) rs)
+pub tested-next : (bs : List ℕ) (rs : List Record) → Front bs rs → ended rs ≡ false → Next bs rs (tested bs (bytesIn rs) rs)
 tested-next bs rs f g = two (leb (p + 2) (length bs)) refl
   where
     p : ℕ
@@ -115,7 +115,7 @@ Stated bs (refused n p) = Refusal bs n p
 Stated bs (accepted s) = Acceptance bs s
 
 -- sound records do not reach past the bytes
-front-fits : (bs : List ℕ) (rs : List Record) → Front bs rs → bytesIn rs ≤ length bs
+pub front-fits : (bs : List ℕ) (rs : List Record) → Front bs rs → bytesIn rs ≤ length bs
 front-fits bs [] f = omega arith
 front-fits bs (r ∷ rs) f = let fits : bytesIn rs + size (markOf r) ≤ length bs = f .2 .fits in omega arith
 
@@ -179,12 +179,12 @@ front-reached bs (r ∷ rs) f = go (front-reached bs rs (f .0))
     go : Reached bs rs → Reached bs (r ∷ rs)
     go h = step (h .more) (h .enough) (h .same)
 
-refused-there : (bs : List ℕ) (n p : ℕ) (rs : List Record) → Front bs rs → p ≡ bytesIn rs → ended rs ≡ false → tested bs p rs ≡ fault n → judgement bs ≡ refused n p
+pub refused-there : (bs : List ℕ) (n p : ℕ) (rs : List Record) → Front bs rs → p ≡ bytesIn rs → ended rs ≡ false → tested bs p rs ≡ fault n → judgement bs ≡ refused n p
 refused-there bs n p rs f e g t =
     let h : Reached bs rs = front-reached bs rs f in
     h .same ∙ ap (λ (q : ℕ). judgeFrom (suc (h .more)) bs q rs) (sym e) ∙ judge-fault (h .more) bs p rs n g t
 
-closed-there : (bs : List ℕ) (rs : List Record) → Front bs rs → ended rs ≡ true → judgement bs ≡ closed bs (bytesIn rs) rs
+pub closed-there : (bs : List ℕ) (rs : List Record) → Front bs rs → ended rs ≡ true → judgement bs ≡ closed bs (bytesIn rs) rs
 closed-there bs rs f e = let h : Reached bs rs = front-reached bs rs f in h .same ∙ judge-ended (h .more) bs (bytesIn rs) rs e
 
 pub refusal-judgement : (bs : List ℕ) (n p : ℕ) → Refusal bs n p → judgement bs ≡ refused n p

@@ -7,7 +7,7 @@ use Prim.Native.Nat.{ℕ, _≤_}
 use native.Mathlib.Omega.{arith}
 use lib.ListN.{length, take}
 use lib.Seq.{take-length}
-use Rattle.model.specs.Sheet.{Sheet}
+use Rattle.model.specs.Sheet.{Sheet, counts}
 use Rattle.model.specs.Limits.{maxBytes}
 use Rattle.model.specs.WellFormed.{WellFormed}
 use Rattle.format.specs.Record.{Record, hz, ml, md, tk, sw, en}
@@ -16,42 +16,47 @@ use Rattle.format.specs.Rules.{ended, AllSound}
 use Rattle.format.specs.Judgement.{refused, accepted, gathered, judgement}
 use Rattle.format.specs.Refusal.{AreBytes, bytesIn, Front, Refusal, no-mark, unknown-mark, cut-short, out-of-order, past-count, bad-field, bytes-after, Acceptance}
 use Rattle.format.proofs.Sizes.{sound-size, fields-fit, longest, longest-wellFormed, longest-length}
-use Rattle.format.proofs.Gathering.{gathered-records, gathered-wellFormed}
+use Rattle.format.proofs.Gathering.{countsRead, gathered-records, gathered-wellFormed, gathered-counts}
 use Rattle.format.proofs.Listing.{records-gathered, records-sound}
 use Rattle.format.proofs.Judging.{judgement-refusal, judgement-acceptance, acceptance-judgement}
 use Rattle.format.proofs.Bytes.{length-joined, bytes-joined, front-bytes, front-of}
 
-front-sound : (bs : List ℕ) (rs : List Record) → Front bs rs → AllSound rs
+pub front-sound : (bs : List ℕ) (rs : List Record) → Front bs rs → AllSound rs
 front-sound bs [] f = tt
 front-sound bs (r ∷ rs) f = (front-sound bs rs (f .0), f .1, f .4)
 
--- records that have come to their end are those of a well-formed value
-ended-listed : (rs : List Record) → ended rs ≡ true → AllSound rs → WellFormed (gathered rs) × (records (gathered rs) ≡ reverse rs)
+-- what is shown of the value of records that have come to their end
+pub record Listed (rs : List Record) : Type 0 where
+  pub well-formed : WellFormed (gathered rs)
+  pub in-order : records (gathered rs) ≡ reverse rs
+  pub all-counted : counts (gathered rs) ≡ countsRead rs
+
+pub ended-listed : (rs : List Record) → ended rs ≡ true → AllSound rs → Listed rs
 ended-listed [] e a = absurd (false≢true e)
 ended-listed (hz h ∷ rs) e a = absurd (false≢true e)
 ended-listed (ml n ∷ rs) e a = absurd (false≢true e)
 ended-listed (md p ∷ rs) e a = absurd (false≢true e)
 ended-listed (tk k ∷ rs) e a = absurd (false≢true e)
 ended-listed (sw w ∷ rs) e a = absurd (false≢true e)
-ended-listed (en n ∷ rs) e a = (gathered-wellFormed rs n a, gathered-records rs n a)
+ended-listed (en n ∷ rs) e a = record { well-formed = gathered-wellFormed rs n a; in-order = gathered-records rs n a; all-counted = gathered-counts rs n a }
 
 module _ (bs : List ℕ) (s : Sheet) (e : judgement bs ≡ accepted s) where
   read : Acceptance bs s
   read = judgement-acceptance bs s e
 
-  listed : WellFormed (gathered (read .read)) × (records (gathered (read .read)) ≡ reverse (read .read))
+  listed : Listed (read .read)
   listed = ended-listed (read .read) (read .closes) (front-sound bs (read .read) (read .front))
 
   -- What is accepted is a well-formed value ..
   pub accepted-wellFormed : WellFormed s
-  accepted-wellFormed = subst WellFormed (read .value) (listed .0)
+  accepted-wellFormed = subst WellFormed (read .value) (listed .well-formed)
 
   -- .. of which the bytes are the encoding.
   pub accepted-encoded : AreBytes bs → encode s ≡ bs
   unfolding encode
   accepted-encoded h =
       ap encode (sym (read .value))
-      ∙ ap (joined recordBytes) (listed .1)
+      ∙ ap (joined recordBytes) (listed .in-order)
       ∙ sym (front-bytes bs h (read .read) (read .front))
       ∙ ap (λ (n : ℕ). take n bs) (read .all)
       ∙ take-length bs

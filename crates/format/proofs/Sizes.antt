@@ -72,7 +72,7 @@ period (sw w ∷ rs) a = period rs (a .0)
 period (en n ∷ rs) a = period rs (a .0)
 
 -- each record has bytes
-length-bytes : (rs : List Record) → length rs ≤ bytesIn rs
+pub length-bytes : (rs : List Record) → length rs ≤ bytesIn rs
 length-bytes [] = omega arith
 length-bytes (r ∷ rs) = let h : length rs ≤ bytesIn rs = length-bytes rs in omega arith
 

@@ -1,0 +1,3 @@
+pub mod Turns
+pub mod Reached
+pub mod JudgedLaws

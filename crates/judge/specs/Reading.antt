@@ -1,0 +1,153 @@
+-- How what the code has read stands for the records read so far, and what a step of the code has to make of it. Assumes nothing.
+use mathlib.Core.Path.{_≡_}
+use mathlib.Core.Bool.{Bool, true, false, not, _&&_}
+use mathlib.Core.Option.{Option, none, some}
+use mathlib.Core.List.{List, [], _∷_}
+use Prim.Native.Nat.{ℕ, zero, suc, _+_, _*_, _≤_}
+use lib.Dec.{ltb, eqb}
+use lib.ListN.{length, getD}
+use Rattle.model.specs.Sheet.{Task, Switch}
+use Rattle.model.specs.Limits.{maxModules, maxModes, maxModeTasks, maxTasks, maxSwitches, maxBytes}
+use Rattle.format.specs.Record.{Mark, HZ, ML, MD, TK, SW, EN, Record, hz, ml, md, tk, sw, en, size, recordAt}
+use Rattle.format.specs.Rules.{ofMD, ofTK, ofSW, taken, modulesRead, stated, seen, modePeriod, tasksRead, switchesRead, isEmpty, ended, counted, divides, eachDivides, named, ruled, fieldNumber}
+use Rattle.format.specs.Judgement.{Tested, fault, sound, orFault, tested}
+use Rattle.format.specs.Refusal.{bytesIn}
+use Rattle.judge.specs.declared.Mark.{Mark as CodeMark}
+use Rattle.judge.specs.declared.Mark.the-variants.{Hz, Ml, Md, Tk, Sw, En}
+use Rattle.judge.specs.declared.Found.{Found}
+use Rattle.judge.specs.declared.Found.the-variants.{Listed, Unlisted}
+use Rattle.judge.specs.declared.Test.the-variants.{Sound, Fault}
+use Rattle.judge.specs.declared.Sheet.{Sheet}
+use Rattle.judge.specs.declared.Turn.{Turn}
+
+-- The code's marks, tasks and switches.
+
+abbrev pub marked : CodeMark → Mark
+marked Hz = HZ
+marked Ml = ML
+marked Md = MD
+marked Tk = TK
+marked Sw = SW
+marked En = EN
+
+abbrev pub found : Found → Option Mark
+found (Listed m) = some (marked m)
+found Unlisted = none
+
+abbrev pub taskOf : ℕ → ℕ → ℕ → ℕ → Task
+taskOf offset cost LET period = record { offset = offset; cost = cost; LET = LET; period = period }
+
+abbrev pub switchOf : ℕ → ℕ → Switch
+switchOf target period = record { target = target; period = period }
+
+-- The tests that look back, by the state.
+
+-- 3: the order of a mark
+abbrev pub inOrder : Mark → Sheet → Bool
+inOrder HZ st = eqb (st .records) 0
+inOrder ML st = ltb 0 (st .records) && eqb (st .seen) (st .stated)
+inOrder MD st = ltb (st .seen) (st .stated)
+inOrder TK st = ltb 0 (st .seen) && not (st .switching)
+inOrder SW st = ltb 0 (st .seen)
+inOrder EN st = ltb 0 (st .modules) && eqb (st .seen) (st .stated)
+
+-- each of the first n periods divides v
+abbrev pub eachOf : ℕ → List ℕ → ℕ → Bool
+eachOf zero ps v = true
+eachOf (suc n) ps v = divides (getD ps n 0) v && eachOf n ps v
+
+-- 6: the rules of a switch
+unfoldable pub switchKept : Sheet → Switch → Bool
+switchKept st w =
+    ltb (w .target) (st .stated) && not (eqb (w .target + 1) (st .seen)) && not (getD (st .named) (w .target) false) && divides (w .period) (st .period) && eachOf (st .held) (st .periods) (w .period)
+
+-- What has been read.
+
+-- the horizon of HZ, which is the first record
+abbrev pub horizonRead : List Record → ℕ
+horizonRead [] = 0
+horizonRead (hz h ∷ rs) = h
+horizonRead (ml n ∷ rs) = horizonRead rs
+horizonRead (md p ∷ rs) = horizonRead rs
+horizonRead (tk k ∷ rs) = horizonRead rs
+horizonRead (sw w ∷ rs) = horizonRead rs
+horizonRead (en n ∷ rs) = horizonRead rs
+
+-- The state stands for the records rs, the last one first.
+pub record Reads (st : Sheet) (rs : List Record) : Type 0 where
+  pub at : st .at ≡ bytesIn rs
+  pub records : st .records ≡ length rs
+  pub horizon : st .horizon ≡ horizonRead rs
+  pub modules : st .modules ≡ modulesRead rs
+  pub modes : st .modes ≡ length (taken ofMD rs)
+  pub tasks : st .tasks ≡ length (taken ofTK rs)
+  pub switches : st .switches ≡ length (taken ofSW rs)
+  pub stated : st .stated ≡ stated rs
+  pub seen : st .seen ≡ seen rs
+  pub period : st .period ≡ modePeriod rs
+  pub held : st .held ≡ length (tasksRead rs)
+  pub periods : (v : ℕ) → eachOf (st .held) (st .periods) v ≡ eachDivides (tasksRead rs) v
+  pub switching : not (st .switching) ≡ isEmpty (switchesRead rs)
+  pub named : (t : ℕ) → getD (st .named) t false ≡ named t (switchesRead rs)
+  pub ended : st .ended ≡ ended rs
+  pub periods-room : length (st .periods) ≡ maxModeTasks
+  pub named-room : length (st .named) ≡ maxModes
+
+-- a state at a record that is to be read: no number of it is past its limit
+pub record Within (bs : List ℕ) (st : Sheet) : Type 0 where
+  pub inside : st .at ≤ length bs
+  pub bytes : st .at ≤ maxBytes
+  pub records : st .records ≤ st .at
+  pub modules : st .modules ≤ maxModules
+  pub modes : st .modes ≤ maxModules * maxModes
+  pub tasks : st .tasks ≤ maxTasks
+  pub switches : st .switches ≤ maxSwitches
+  pub stated : st .stated ≤ maxModes
+  pub seen : st .seen ≤ maxModes
+  pub held : st .held ≤ maxModeTasks
+  pub going : st .ended ≡ false
+
+-- .. that is there whole
+pub record Room (m : Mark) (bs : List ℕ) (st : Sheet) : Type 0 where
+  pub within : Within bs st
+  pub fits : st .at + size m ≤ length bs
+
+-- One step.
+
+-- the state one record of so many bytes further on
+abbrev pub onward : ℕ → Sheet → Sheet
+onward bytes st =
+    record {
+      at = st .at + bytes;
+      records = st .records + 1;
+      horizon = st .horizon;
+      modules = st .modules;
+      modes = st .modes;
+      tasks = st .tasks;
+      switches = st .switches;
+      stated = st .stated;
+      seen = st .seen;
+      period = st .period;
+      held = st .held;
+      switching = st .switching;
+      ended = st .ended;
+      periods = st .periods;
+      named = st .named;
+    }
+
+-- the turn t is what the tests of the record after rs say: the fault's number at this place, or the records with this one
+unfoldable pub Turned : Sheet → Turn → List Record → Tested → Type 0
+Turned st t rs (fault n) = t .test ≡ Fault n (st .at)
+Turned st t rs (sound r) = (t .test ≡ Sound) × Reads (t .next) (r ∷ rs)
+
+-- counts (4) and values (5, 6, 7) of a record of this mark
+unfoldable pub judged : Mark → Record → List Record → Tested
+judged m r rs = orFault (counted m rs) 4 (orFault (ruled r rs) (fieldNumber m) (sound r))
+
+-- a record of this mark, whole and in order, is judged for whatever records the state stands for
+abbrev pub Judges : Mark → List ℕ → Sheet → Turn → Type 0
+Judges m bs st t = (rs : List Record) → Reads st rs → Turned st t rs (judged m (recordAt m bs (st .at)) rs)
+
+-- whatever is at the state's place is
+abbrev pub Steps : List ℕ → Sheet → Turn → Type 0
+Steps bs st t = (rs : List Record) → Reads st rs → Turned st t rs (tested bs (st .at) rs)

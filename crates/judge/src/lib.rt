@@ -1,0 +1,483 @@
+// Judges the bytes of a timing sheet, record by record from the front.
+ghost use mathlib.Core.Path.{_≡_};
+ghost use mathlib.Core.List.{[]};
+ghost use Prim.Native.Nat.{_+_, _<_, _≤_};
+ghost use lib.ListN.{length, getD};
+ghost use Rattle.model.specs.Limits.{maxModes, maxModeTasks, maxBytes, workNumbers};
+ghost use Rattle.format.specs.Record.{HZ, ML, MD, TK, SW, EN, size, fieldAt, markCoded, markAt};
+ghost use Rattle.format.specs.Rules.{between, divides, taskRuled};
+ghost use Rattle.format.specs.Judgement.{judgement};
+ghost use Rattle.judge.specs.Told.{told, tellsOf};
+ghost use Rattle.judge.specs.Reading.{marked, found, taskOf, switchOf, inOrder, eachOf, switchKept, onward, Reads, Within, Room, Judges, Steps};
+
+// The judgement of a sheet.
+pub enum Judged {
+    Refused {
+        number: u8,
+        place: usize,
+    },
+    Accepted {
+        modules: u16,
+        modes: u16,
+        tasks: u16,
+        switches: u16,
+        horizon: u16,
+    },
+}
+
+enum Mark {
+    Hz,
+    Ml,
+    Md,
+    Tk,
+    Sw,
+    En,
+}
+
+// What the two bytes of a mark say.
+enum Found {
+    Listed(Mark),
+    Unlisted,
+}
+
+// The outcome of one record's tests.
+enum Test {
+    Sound,
+    Fault { number: u8, place: usize },
+}
+
+// One record judged: the outcome, and what has been read where it is sound.
+struct Turn {
+    test: Test,
+    next: Sheet,
+}
+
+// The refusal numbers.
+const CUT_SHORT: u8 = 1;
+
+const UNKNOWN_MARK: u8 = 2;
+
+const OUT_OF_ORDER: u8 = 3;
+
+const PAST_COUNT: u8 = 4;
+
+const BAD_FIELD: u8 = 5;
+
+const BAD_SWITCH: u8 = 6;
+
+const BAD_END: u8 = 7;
+
+const BYTES_AFTER: u8 = 8;
+
+fn byte(s: &[u8], i: usize) -> u16
+    requires { ⌜ i < length (now s) ⌝ }
+    ensures { λ r. ⌜ (r ≡ getD (now (s .entry)) i 0) × (r < 256) ⌝ }
+{
+    s[i] as u16
+}
+
+// A field: low byte first.
+fn field(s: &[u8], i: usize) -> u16
+    requires { ⌜ i + 2 ≤ length (now s) ⌝ }
+    ensures { λ r. ⌜ r ≡ fieldAt (now (s .entry)) i ⌝ }
+{
+    byte(s, i) + 256 * byte(s, i + 1)
+}
+
+// The mark whose two bytes are this number, the first one high.
+fn listed(code: u16) -> Found
+    ensures { λ r. ⌜ found r ≡ markCoded code ⌝ }
+{
+    match code {
+        0x485A => Found::Listed(Mark::Hz),
+        0x4D4C => Found::Listed(Mark::Ml),
+        0x4D44 => Found::Listed(Mark::Md),
+        0x544B => Found::Listed(Mark::Tk),
+        0x5357 => Found::Listed(Mark::Sw),
+        0x454E => Found::Listed(Mark::En),
+        _ => Found::Unlisted,
+    }
+}
+
+// The mark at i.
+fn mark_at(s: &[u8], i: usize) -> Found
+    requires { ⌜ i + 2 ≤ length (now s) ⌝ }
+    ensures { λ r. ⌜ found r ≡ markAt (now (s .entry)) i ⌝ }
+{
+    listed(byte(s, i) * 256 + byte(s, i + 1))
+}
+
+// How many bytes a record of this mark has.
+fn bytes_of(m: Mark) -> usize
+    ensures { λ r. ⌜ (r ≡ size (marked m)) × (r ≤ 10) ⌝ }
+{
+    match m {
+        Mark::Hz => 4,
+        Mark::Ml => 4,
+        Mark::Md => 4,
+        Mark::Tk => 10,
+        Mark::Sw => 6,
+        Mark::En => 4,
+    }
+}
+
+fn is_between(least: u16, most: u16, n: u16) -> bool
+    ensures { λ r. ⌜ r ≡ between least most n ⌝ }
+{
+    if n < least {
+        return false;
+    }
+    n <= most
+}
+
+// p is at least 1 and divides n.
+fn is_divisor(p: u16, n: u16) -> bool
+    ensures { λ r. ⌜ r ≡ divides p n ⌝ }
+{
+    if p < 1 {
+        return false;
+    }
+    n % p == 0
+}
+
+// The task rules, in a mode of the period mode; LET is called due.
+fn task_keeps(mode: u16, offset: u16, cost: u16, due: u16, period: u16) -> bool
+    ensures { λ r. ⌜ r ≡ taskRuled mode (taskOf offset cost due period) ⌝ }
+{
+    if cost < 1 {
+        return false;
+    }
+    if due < cost {
+        return false;
+    }
+    if (period as u32) < offset as u32 + due as u32 {
+        return false;
+    }
+    is_divisor(period, mode)
+}
+
+// What has been read so far: where the next record begins, the counts, and the module and the mode that are open.
+pub struct Sheet {
+    at: usize,
+    records: u16,
+    horizon: u16,
+    modules: u16,
+    modes: u16,
+    tasks: u16,
+    switches: u16,
+    stated: u16,
+    seen: u16,
+    period: u16,
+    held: u16,
+    switching: bool,
+    ended: bool,
+    periods: [u16; Sheet::MAX_MODE_TASKS as usize],
+    named: [bool; Sheet::MAX_MODES as usize],
+}
+
+impl Sheet {
+    pub const MAX_HORIZON: u16 = 2000;
+
+    pub const MAX_MODULES: u16 = 8;
+
+    // In a module.
+    pub const MAX_MODES: u16 = 8;
+
+    pub const MAX_MODE_PERIOD: u16 = 1024;
+
+    pub const MAX_MODE_TASKS: u16 = 16;
+
+    // In a sheet.
+    pub const MAX_TASKS: u16 = 256;
+
+    pub const MAX_SWITCHES: u16 = 128;
+
+    pub const MAX_BYTES: usize = 3624;
+
+    // The lent working memory.
+    pub const WORK_NUMBERS: usize = 16384;
+
+    // The two limits that no test of a record names.
+    pub fn most_bytes() -> usize
+        ensures { λ r. ⌜ r ≡ maxBytes ⌝ }
+    {
+        Self::MAX_BYTES
+    }
+
+    pub fn work_numbers() -> usize
+        ensures { λ r. ⌜ r ≡ workNumbers ⌝ }
+    {
+        Self::WORK_NUMBERS
+    }
+
+    // Before the first record.
+    pub fn new() -> Self
+        ensures { λ r. ⌜ Reads r [] ⌝ }
+    {
+        Self {
+            at: 0,
+            records: 0,
+            horizon: 0,
+            modules: 0,
+            modes: 0,
+            tasks: 0,
+            switches: 0,
+            stated: 0,
+            seen: 0,
+            period: 0,
+            held: 0,
+            switching: false,
+            ended: false,
+            periods: [0; Self::MAX_MODE_TASKS as usize],
+            named: [false; Self::MAX_MODES as usize],
+        }
+    }
+
+    // 3: the record's mark may follow those read.
+    fn in_order(self, m: Mark) -> bool
+        ensures { λ r. ⌜ r ≡ inOrder (marked m) self ⌝ }
+    {
+        match m {
+            Mark::Hz => self.records == 0,
+            Mark::Ml => 0 < self.records && self.seen == self.stated,
+            Mark::Md => self.seen < self.stated,
+            Mark::Tk => 0 < self.seen && !self.switching,
+            Mark::Sw => 0 < self.seen,
+            Mark::En => 0 < self.modules && self.seen == self.stated,
+        }
+    }
+
+    fn refused(self, number: u8, place: usize) -> Turn
+        ensures { λ r. ⌜ r .test ≡ Test.Fault number place ⌝ }
+    {
+        Turn {
+            test: Test::Fault { number, place },
+            next: self,
+        }
+    }
+
+    // A sound record of this mark is read.
+    fn past(mut self, m: Mark) -> Turn
+        requires { ⌜ (self .at ≤ maxBytes) × (self .records ≤ maxBytes) ⌝ }
+        ensures { λ r. ⌜ (r .test ≡ Test.Sound) × (r .next ≡ onward (size (marked m)) self) ⌝ }
+    {
+        self.at = self.at + bytes_of(m);
+        self.records = self.records + 1;
+        Turn {
+            test: Test::Sound,
+            next: self,
+        }
+    }
+
+    fn horizon_record(mut self, s: &[u8]) -> Turn
+        requires { ⌜ Room HZ (now s) self ⌝ }
+        ensures { λ r. ⌜ Judges HZ (now (s .entry)) self r ⌝ }
+    {
+        let at = self.at;
+        let horizon = field(s, at + 2);
+        if !is_between(1, Self::MAX_HORIZON, horizon) {
+            return self.refused(BAD_FIELD, at);
+        }
+        self.horizon = horizon;
+        self.past(Mark::Hz)
+    }
+
+    fn module_record(mut self, s: &[u8]) -> Turn
+        requires { ⌜ Room ML (now s) self ⌝ }
+        ensures { λ r. ⌜ Judges ML (now (s .entry)) self r ⌝ }
+    {
+        let at = self.at;
+        if Self::MAX_MODULES <= self.modules {
+            return self.refused(PAST_COUNT, at);
+        }
+        let stated = field(s, at + 2);
+        if !is_between(1, Self::MAX_MODES, stated) {
+            return self.refused(BAD_FIELD, at);
+        }
+        self.modules = self.modules + 1;
+        self.stated = stated;
+        self.seen = 0;
+        self.past(Mark::Ml)
+    }
+
+    fn mode_record(mut self, s: &[u8]) -> Turn
+        requires { ⌜ Room MD (now s) self ⌝ }
+        ensures { λ r. ⌜ Judges MD (now (s .entry)) self r ⌝ }
+    {
+        let at = self.at;
+        let period = field(s, at + 2);
+        if !is_between(1, Self::MAX_MODE_PERIOD, period) {
+            return self.refused(BAD_FIELD, at);
+        }
+        self.modes = self.modes + 1;
+        self.seen = self.seen + 1;
+        self.period = period;
+        self.held = 0;
+        self.switching = false;
+        self.named = [false; Self::MAX_MODES as usize];
+        self.past(Mark::Md)
+    }
+
+    fn task_record(mut self, s: &[u8]) -> Turn
+        requires { ⌜ Room TK (now s) self ⌝ }
+        ensures { λ r. ⌜ Judges TK (now (s .entry)) self r ⌝ }
+    {
+        let at = self.at;
+        if Self::MAX_MODE_TASKS <= self.held {
+            return self.refused(PAST_COUNT, at);
+        }
+        if Self::MAX_TASKS <= self.tasks {
+            return self.refused(PAST_COUNT, at);
+        }
+        let offset = field(s, at + 2);
+        let cost = field(s, at + 4);
+        let due = field(s, at + 6);
+        let period = field(s, at + 8);
+        if !task_keeps(self.period, offset, cost, due, period) {
+            return self.refused(BAD_FIELD, at);
+        }
+        let i = self.held as usize;
+        self.periods[i] = period;
+        self.held = self.held + 1;
+        self.tasks = self.tasks + 1;
+        self.past(Mark::Tk)
+    }
+
+    // n is a multiple of every task period of the mode.
+    fn spans_tasks(self, n: u16) -> bool
+        requires { ⌜ self .held ≤ maxModeTasks ⌝ }
+        ensures { λ r. ⌜ r ≡ eachOf (self .held) (self .periods) n ⌝ }
+    {
+        let tasks = self.held as usize;
+        let mut i: usize = 0;
+        while i < tasks {
+            let p = self.periods[i];
+            if !is_divisor(p, n) {
+                return false;
+            }
+            i = i + 1;
+        }
+        true
+    }
+
+    // The switch rules, in the mode that is open.
+    fn switch_keeps(self, target: u16, period: u16) -> bool
+        requires { ⌜ (self .held ≤ maxModeTasks) × (self .stated ≤ maxModes) ⌝ }
+        ensures { λ r. ⌜ r ≡ switchKept self (switchOf target period) ⌝ }
+    {
+        if self.stated <= target {
+            return false;
+        }
+        if target + 1 == self.seen {
+            return false;
+        }
+        let k = target as usize;
+        if self.named[k] {
+            return false;
+        }
+        if !is_divisor(period, self.period) {
+            return false;
+        }
+        self.spans_tasks(period)
+    }
+
+    fn switch_record(mut self, s: &[u8]) -> Turn
+        requires { ⌜ Room SW (now s) self ⌝ }
+        ensures { λ r. ⌜ Judges SW (now (s .entry)) self r ⌝ }
+    {
+        let at = self.at;
+        if Self::MAX_SWITCHES <= self.switches {
+            return self.refused(PAST_COUNT, at);
+        }
+        let target = field(s, at + 2);
+        let period = field(s, at + 4);
+        if !self.switch_keeps(target, period) {
+            return self.refused(BAD_SWITCH, at);
+        }
+        let k = target as usize;
+        self.named[k] = true;
+        self.switches = self.switches + 1;
+        self.switching = true;
+        self.past(Mark::Sw)
+    }
+
+    fn end_record(mut self, s: &[u8]) -> Turn
+        requires { ⌜ Room EN (now s) self ⌝ }
+        ensures { λ r. ⌜ Judges EN (now (s .entry)) self r ⌝ }
+    {
+        let at = self.at;
+        let before = field(s, at + 2);
+        if before != self.records {
+            return self.refused(BAD_END, at);
+        }
+        self.ended = true;
+        self.past(Mark::En)
+    }
+
+    // 4, 5, 6, 7: the counts and the values of a record that is whole and in order.
+    fn judge_fields(self, m: Mark, s: &[u8]) -> Turn
+        requires { ⌜ Room (marked m) (now s) self ⌝ }
+        ensures { λ r. ⌜ Judges (marked m) (now (s .entry)) self r ⌝ }
+    {
+        match m {
+            Mark::Hz => self.horizon_record(s),
+            Mark::Ml => self.module_record(s),
+            Mark::Md => self.mode_record(s),
+            Mark::Tk => self.task_record(s),
+            Mark::Sw => self.switch_record(s),
+            Mark::En => self.end_record(s),
+        }
+    }
+
+    // One record: cut short (1), mark (2), fields cut short (1), order (3), and then the rest.
+    fn step(self, s: &[u8]) -> Turn
+        requires { ⌜ Within (now s) self ⌝ }
+        ensures { λ r. ⌜ Steps (now (s .entry)) self r ⌝ }
+    {
+        let at = self.at;
+        if s.len() < at + 2 {
+            return self.refused(CUT_SHORT, at);
+        }
+        let mark = mark_at(s, at);
+        let Found::Listed(m) = mark else {
+            return self.refused(UNKNOWN_MARK, at);
+        };
+        let end = at + bytes_of(m);
+        if s.len() < end {
+            return self.refused(CUT_SHORT, at);
+        }
+        if !self.in_order(m) {
+            return self.refused(OUT_OF_ORDER, at);
+        }
+        self.judge_fields(m, s)
+    }
+}
+
+// The judgement of any bytes.
+pub fn judge(sheet: &[u8]) -> Judged
+    ensures { λ r. ⌜ told r ≡ tellsOf (judgement (now (sheet .entry))) ⌝ }
+{
+    let mut read = Sheet::new();
+    while !read.ended {
+        let turn = read.step(sheet);
+        let test = turn.test;
+        if let Test::Fault { number, place } = test {
+            return Judged::Refused { number, place };
+        }
+        let next = turn.next;
+        read = next;
+    }
+    if read.at < sheet.len() {
+        return Judged::Refused {
+            number: BYTES_AFTER,
+            place: read.at,
+        };
+    }
+    Judged::Accepted {
+        modules: read.modules,
+        modes: read.modes,
+        tasks: read.tasks,
+        switches: read.switches,
+        horizon: read.horizon,
+    }
+}

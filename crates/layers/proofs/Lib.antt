@@ -1,0 +1,6 @@
+pub mod Sums
+pub mod Walks
+pub mod Parts
+pub mod Bounds
+pub mod Nexts
+pub mod Layers

@@ -1,0 +1,53 @@
+-- The layer of a module, and when numbers tell a module. Assumes nothing.
+use mathlib.Core.Path.{_≡_}
+use mathlib.Core.Bool.{true}
+use mathlib.Core.List.{List, List·Memᴰ}
+use Prim.Native.Nat.{ℕ, _+_, _≤_, _<_}
+use lib.ListN.{length}
+use Rattle.model.specs.Sheet.{Switch, Module}
+use Rattle.model.specs.WellFormed.{ModuleRule}
+use Rattle.model.specs.Flat.{taskNumbers}
+use Rattle.model.specs.Run.{at, modeAt}
+use Rattle.model.specs.Demand.{value}
+use Rattle.layers.specs.declared.Shape.{Shape}
+use Rattle.layers.specs.Step.{sumBelow, look, total, period, lists, every, tasksOf}
+
+-- where mode time d of the mode k stands: behind the modes before it
+unfoldable pub place : Module → ℕ → ℕ → ℕ
+place m k d = sumBelow (λ j. modeAt m j .period) k + d
+
+-- how many states the module has
+abbrev pub statesOf : Module → ℕ
+statesOf m = place m (length (m .modes)) 0
+
+-- w holds the largest demand in L ticks from each state, at its place
+pub record Layer (m : Module) (L : ℕ) (w : List ℕ) : Type 0 where
+  pub room : statesOf m ≤ length w
+  pub holds : (k d : ℕ) → k < length (m .modes) → d < modeAt m k .period → look w (place m k d) ≡ value m 0 L (at k d)
+
+-- the numbers tell the mode k: its period, its tasks, and for each mode of the module whether it is a target of a switch, and of which period
+pub record ModeTold (m : Module) (s : Shape) (numbers : List ℕ) (k : ℕ) : Type 0 where
+  pub period : period s k ≡ modeAt m k .period
+  pub up : look (s .starts) k ≤ look (s .starts) (k + 1)
+  pub within : look (s .starts) (k + 1) ≤ length numbers
+  pub tasks : tasksOf s numbers k ≡ taskNumbers (modeAt m k .tasks)
+  pub listed : (w : Switch) → List·Memᴰ w (modeAt m k .switches) → (lists s k (w .target) ≡ true) × (every s k (w .target) ≡ w .period)
+  pub only : (t : ℕ) → t < s .modes → lists s k t ≡ true → (w : Switch) × List·Memᴰ w (modeAt m k .switches) × (w .target ≡ t) × (w .period ≡ every s k t)
+
+-- the numbers tell the module
+pub record Told (m : Module) (s : Shape) (numbers : List ℕ) : Type 0 where
+  pub modes : s .modes ≡ length (m .modes)
+  pub each : (k : ℕ) → k < s .modes → ModeTold m s numbers k
+
+-- w is the layer of length L of a module that the numbers tell
+pub record IsLayer (s : Shape) (numbers : List ℕ) (L : ℕ) (w : List ℕ) : Type 0 where
+  pub owner : Module
+  pub rule : ModuleRule owner
+  pub told : Told owner s numbers
+  pub layer : Layer owner L w
+
+-- of whichever module the numbers tell, w′ is the layer one tick longer; what lies past its states is as it was
+pub record Advanced (s : Shape) (numbers : List ℕ) (L : ℕ) (w w′ : List ℕ) : Type 0 where
+  pub len : length w′ ≡ length w
+  pub layer : (m : Module) → ModuleRule m → Told m s numbers → Layer m L w → Layer m (L + 1) w′
+  pub above : (x : ℕ) → total (s .periods) (s .modes) ≤ x → look w′ x ≡ look w x
