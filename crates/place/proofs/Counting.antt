@@ -1,7 +1,7 @@
 -- Counting the tasks and the switches of the mode at a place by the first bytes of their records. Assumes nothing.
-use mathlib.Core.Path.{_≡_, refl, sym, _∙_, ap}
+use mathlib.Core.Path.{_≡_, sym}
 use mathlib.Core.List.{List}
-use Prim.Native.Nat.{ℕ, suc, _+_, _*_, _≤_, _<_}
+use Prim.Native.Nat.{ℕ, _+_, _*_, _≤_, _<_}
 use native.Mathlib.Decide.{ℕ-discrete}
 use native.Mathlib.Omega.{arith}
 use lib.ListN.{length, getD}
@@ -79,3 +79,8 @@ module _ (bs : List ℕ) (accepted : Accepted bs) (bytes : AreBytes bs) (p : ℕ
         here = λ k j h i l. rw (behind k j h, h .place) (switch-first bs accepted bytes k (h .number) j (h .mode) i l);
         ends = λ k j h e. let e′ = rw (behind k j h, h .place) at e in omega (arith, e′, switches-end bs accepted bytes k (h .number) j (h .mode));
       }
+
+  -- the n switches, which begin at q, are within the bytes
+  pub switches-within : (q n : ℕ) → ((k j : ℕ) → ModeThere (sheetIn bs) k j p → q ≡ p + 4 + 10 * length (modeAt (moduleAt (sheetIn bs) k) j .tasks))
+      → ((k j : ℕ) → ModeThere (sheetIn bs) k j p → n ≡ length (modeAt (moduleAt (sheetIn bs) k) j .switches)) → q + 6 * n ≤ length bs
+  switches-within q n behind count = omega (arith, behind (some .k) (some .j) (some .there), count (some .k) (some .j) (some .there), some-within)

@@ -9,7 +9,7 @@ use lib.Seq.{drop-length, length-take-le, drop-cons, drop-drop, drop-at, getD-dr
 use Rattle.model.specs.Lists.{sumOf}
 use Rattle.model.specs.Sheet.{Task, Switch, Mode, Module, Sheet, moduleAt}
 use Rattle.model.specs.Run.{modeAt, idle}
-use Rattle.format.specs.Record.{Mark, HZ, ML, MD, TK, SW, EN, Record, hz, ml, md, tk, sw, en, markOf, size, fieldAt, recordAt}
+use Rattle.format.specs.Record.{Mark, HZ, ML, MD, TK, SW, EN, Record, hz, ml, md, tk, sw, en, markOf, size, recordAt}
 use Rattle.format.specs.Encoding.{joined, modeRecords, moduleRecords, recordsBeforeEnd, records, recordBytes, encode}
 use Rattle.format.specs.Judgement.{sheetIn, Accepted}
 use Rattle.format.specs.Refusal.{AreBytes}

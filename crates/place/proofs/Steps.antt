@@ -1,5 +1,5 @@
 -- From one place to the next: the first mode stands behind ML, a mode behind the mode before it, and a module behind the last mode of the module before it. Assumes nothing.
-use mathlib.Core.Path.{_≡_, refl, sym, _∙_, ap}
+use mathlib.Core.Path.{_≡_, refl, ap}
 use mathlib.Core.List.{List, [], _∷_}
 use Prim.Native.Nat.{ℕ, zero, suc, _+_, _<_}
 use native.Mathlib.Nat.{le-of-suc-le-suc}
@@ -7,7 +7,7 @@ use native.Mathlib.Omega.{arith}
 use lib.ListN.{length, getD, take}
 use lib.Seq.{take-length}
 use Rattle.model.specs.Lists.{sumOf}
-use Rattle.model.specs.Sheet.{Mode, Module, Sheet, moduleAt}
+use Rattle.model.specs.Sheet.{Module, Sheet, moduleAt}
 use Rattle.model.specs.Run.{modeAt, idle}
 use Rattle.format.specs.Place.{modeBytes, moduleBytes, modulePlace, modePlace}
 

@@ -1,13 +1,13 @@
 -- From a module's place to its modes and to the next module. Assumes nothing.
-use mathlib.Core.Path.{_≡_, sym, _∙_, ap}
+use mathlib.Core.Path.{_≡_, sym, _∙_}
 use mathlib.Core.List.{List}
-use Prim.Native.Nat.{ℕ, suc, _+_, _*_, _≤_, _<_}
+use Prim.Native.Nat.{ℕ, _+_, _≤_, _<_}
 use native.Mathlib.Numerals.{add-one}
 use native.Mathlib.Omega.{arith}
-use lib.ListN.{length, getD}
+use lib.ListN.{length}
 use Rattle.model.specs.Sheet.{Sheet, moduleAt}
 use Rattle.model.specs.Run.{modeAt}
-use Rattle.format.specs.Record.{Record, ml, ML, fieldAt, recordAt}
+use Rattle.format.specs.Record.{ml, fieldAt}
 use Rattle.format.specs.Judgement.{sheetIn, Accepted}
 use Rattle.format.specs.Refusal.{AreBytes}
 use Rattle.format.specs.Place.{modeBytes, modulePlace, modePlace}

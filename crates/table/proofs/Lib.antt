@@ -1,0 +1,10 @@
+pub mod Numbering
+pub mod Starting
+pub mod Filling
+pub mod Putting
+pub mod Gathering
+pub mod Switching
+pub mod Entering
+pub mod Tabling
+pub mod Unique
+pub mod Reading
