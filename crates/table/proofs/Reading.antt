@@ -43,6 +43,9 @@ module _ (bs : List ℕ) (accepted : Accepted bs) (k : ℕ) (number : k < length
   inside : startOf (moduleAt (sheetIn bs) k) j + 4 * length (modeAt (moduleAt (sheetIn bs) k) j .tasks) ≤ 512
   inside = omega (arith, start-step (moduleAt (sheetIn bs) k) j mode, start-most bs accepted k number (suc j) mode, modes-few bs accepted k number)
 
+  pub tasks-within : getD (r .starts) (j + 1) 0 ≤ length (r .numbers)
+  tasks-within = omega (arith, tasks-end, start-here, inside, h .numbers .size)
+
   -- .. and each number of them stands in its place, ..
   pub task-number : (i : ℕ) → i < 4 * length (modeAt (moduleAt (sheetIn bs) k) j .tasks) → getD (r .numbers) (getD (r .starts) j 0 + i) 0 ≡ getD (taskNumbers (modeAt (moduleAt (sheetIn bs) k) j .tasks)) i 0
   task-number i l =
