@@ -42,11 +42,11 @@ pub record AcceptedWith (bs : List ℕ) (modules modes tasks switches horizon : 
   pub horizon-is : horizon ≡ sheetIn bs .horizon
 
 -- What an accepted answer says of the bytes.
-pub accepted-told : (bs : List ℕ) (modules modes tasks switches horizon : ℕ) → told (Accepted modules modes tasks switches horizon) ≡ tellsOf (judgement bs)
+pub accepted-told : {r : Judged} {modules modes tasks switches horizon : ℕ} (bs : List ℕ) → r ≡ Accepted modules modes tasks switches horizon → told r ≡ tellsOf (judgement bs)
     → AcceptedWith bs modules modes tasks switches horizon
-accepted-told bs a b c d h e = pick (judgement bs) refl e
+accepted-told {modules} {modes} {tasks} {switches} {horizon} bs k e = pick (judgement bs) refl (sym (ap told k) ∙ e)
   where
-    pick : (j : Judgement) → judgement bs ≡ j → told (Accepted a b c d h) ≡ tellsOf j → AcceptedWith bs a b c d h
+    pick : (j : Judgement) → judgement bs ≡ j → told (Accepted modules modes tasks switches horizon) ≡ tellsOf j → AcceptedWith bs modules modes tasks switches horizon
     pick (refused n p) q t =
         let z : _≡_ {A = ℕ} 0 1 = cc in
         absurd (omega arith)
@@ -61,14 +61,14 @@ accepted-told bs a b c d h e = pick (judgement bs) refl e
         }
 
 -- What a refused answer says of the bytes.
-pub refused-told : (bs : List ℕ) (number place : ℕ) → told (Refused number place) ≡ tellsOf (judgement bs) → judgement bs ≡ refused number place
-refused-told bs n p e = pick (judgement bs) refl e
+pub refused-told : {r : Judged} {number place : ℕ} (bs : List ℕ) → r ≡ Refused number place → told r ≡ tellsOf (judgement bs) → judgement bs ≡ refused number place
+refused-told {number} {place} bs k e = pick (judgement bs) refl (sym (ap told k) ∙ e)
   where
-    pick : (j : Judgement) → judgement bs ≡ j → told (Refused n p) ≡ tellsOf j → judgement bs ≡ refused n p
-    pick (refused m o) q t =
-        let number : n ≡ m = cc in
-        let place : p ≡ o = cc in
-        rw (number, place) q
+    pick : (j : Judgement) → judgement bs ≡ j → told (Refused number place) ≡ tellsOf j → judgement bs ≡ refused number place
+    pick (refused n p) q t =
+        let same-number : number ≡ n = cc in
+        let same-place : place ≡ p = cc in
+        rw (same-number, same-place) q
     pick (accepted s) q t =
         let z : _≡_ {A = ℕ} 0 1 = cc in
         absurd (omega arith)

@@ -10,17 +10,17 @@ use lib.Dec.{ltb, eqb}
 use lib.ListN.{length, getD, set, replicate, length-set}
 use lib.Seq.{getD-set-same, getD-set-other}
 use borrow.Author.Tests.{eqb-true, eqb-false, ne-eqb, ltb-true, lt-ltb, not-true, not-false}
-use Rattle.format.specs.Record.{Mark, HZ, ML, MD, TK, SW, EN, Record, hz, ml, md, tk, sw, en, size, markAt, recordAt}
-use Rattle.format.specs.Refusal.{Whole}
-use Rattle.format.specs.Judgement.{tested}
-use Rattle.format.proofs.Judging.{tested-short, tested-marked, tested-cut, tested-whole}
 use Rattle.model.specs.Sheet.{Task, Switch}
 use Rattle.model.specs.Limits.{maxModes, maxModeTasks}
+use Rattle.format.specs.Record.{Mark, HZ, ML, MD, TK, SW, EN, Record, hz, ml, md, tk, sw, en, size, markAt, recordAt}
 use Rattle.format.specs.Rules.{tasksRead, switchesRead, isEmpty, ordered, counted, divides, eachDivides, named, switchRuled, ruled, fieldNumber}
+use Rattle.format.specs.Judgement.{tested}
+use Rattle.format.specs.Refusal.{Whole}
+use Rattle.format.proofs.Judging.{tested-short, tested-marked, tested-cut, tested-whole}
 use Rattle.judge.specs.declared.Sheet.{Sheet}
 use Rattle.judge.specs.declared.Test.the-variants.{Sound, Fault}
 use Rattle.judge.specs.declared.Turn.{Turn}
-use Rattle.judge.specs.Reading.{inOrder, eachOf, switchKept, Reads, Turned, judged}
+use Rattle.judge.specs.Reading.{inOrder, eachOf, switchKept, Reads, row, Turned, judged}
 
 -- A test that the code made, and its answer.
 
@@ -40,7 +40,7 @@ some-read : (rs : List Record) → ltb 0 (length rs) ≡ not (isEmpty rs)
 some-read [] = refl
 some-read (r ∷ rs) = lt-ltb 0 (suc (length rs)) (omega arith)
 
-pub order-same : (st : Sheet) (rs : List Record) → Reads st rs → (m : Mark) → inOrder m st ≡ ordered m rs
+order-same : (st : Sheet) (rs : List Record) → Reads st rs → (m : Mark) → inOrder m st ≡ ordered m rs
 unfolding ordered
 order-same st rs h HZ = cc (none-read rs)
 order-same st rs h ML = cc (some-read rs)
@@ -101,7 +101,7 @@ each-set ps zero k v p l = refl
 each-set ps (suc n) k v p l = rw (getD-set-other ps k n p 0 (λ e. omega arith), each-set ps n k v p (omega arith))
 
 -- one task more
-pub periods-more : (st : Sheet) (rs : List Record) → Reads st rs → st .held < maxModeTasks → (k : Task)
+periods-more : (st : Sheet) (rs : List Record) → Reads st rs → st .held < maxModeTasks → (k : Task)
     → (v : ℕ) → eachOf (st .held + 1) (set (st .periods) (st .held) (k .period)) v ≡ (divides (k .period) v && eachDivides (tasksRead rs) v)
 periods-more st rs h l k v =
     let room : st .held < length (st .periods) = omega (arith, h .periods-room) in
@@ -131,7 +131,7 @@ none-named (suc n) zero = refl
 none-named (suc n) (suc t) = none-named n t
 
 -- one switch more
-pub targets-more : (st : Sheet) (rs : List Record) → Reads st rs → (w : Switch) → w .target < maxModes
+targets-more : (st : Sheet) (rs : List Record) → Reads st rs → (w : Switch) → w .target < maxModes
     → (t : ℕ) → getD (set (st .named) (w .target) true) t false ≡ (eqb t (w .target) || named t (switchesRead rs))
 targets-more st rs h w l t = pick (eqb t (w .target)) refl
   where
@@ -140,27 +140,6 @@ targets-more st rs h w l t = pick (eqb t (w .target)) refl
     pick false e = getD-set-other (st .named) (w .target) t true false (eqb-false t (w .target) e) ∙ h .named t
 
 -- One record more.
-
--- the state with these numbers, one record of so many bytes further on
-abbrev row : Sheet → ℕ → ℕ → ℕ → ℕ → ℕ → ℕ → ℕ → ℕ → ℕ → ℕ → Bool → Bool → List ℕ → List Bool → Sheet
-row st bytes horizon modules modes tasks switches stated seen period held switching ended periods named =
-    record {
-      at = st .at + bytes;
-      records = st .records + 1;
-      horizon = horizon;
-      modules = modules;
-      modes = modes;
-      tasks = tasks;
-      switches = switches;
-      stated = stated;
-      seen = seen;
-      period = period;
-      held = held;
-      switching = switching;
-      ended = ended;
-      periods = periods;
-      named = named;
-    }
 
 -- what each record makes of the state
 abbrev after : Record → Sheet → Sheet

@@ -14,6 +14,8 @@ use Rattle.format.specs.Judgement.{Tested, fault, sound, orFault, tested}
 use Rattle.format.specs.Refusal.{bytesIn}
 use Rattle.judge.specs.declared.Mark.{Mark as CodeMark}
 use Rattle.judge.specs.declared.Mark.the-variants.{Hz, Ml, Md, Tk, Sw, En}
+use Rattle.judge.specs.declared.Task.{Task as CodeTask}
+use Rattle.judge.specs.declared.Switch.{Switch as CodeSwitch}
 use Rattle.judge.specs.declared.Found.{Found}
 use Rattle.judge.specs.declared.Found.the-variants.{Listed, Unlisted}
 use Rattle.judge.specs.declared.Test.the-variants.{Sound, Fault}
@@ -34,11 +36,11 @@ abbrev pub found : Found → Option Mark
 found (Listed m) = some (marked m)
 found Unlisted = none
 
-abbrev pub taskOf : ℕ → ℕ → ℕ → ℕ → Task
-taskOf offset cost LET period = record { offset = offset; cost = cost; LET = LET; period = period }
+abbrev pub taskOf : CodeTask → Task
+taskOf k = record { offset = k .offset; cost = k .cost; LET = k .due; period = k .period }
 
-abbrev pub switchOf : ℕ → ℕ → Switch
-switchOf target period = record { target = target; period = period }
+abbrev pub switchOf : CodeSwitch → Switch
+switchOf w = record { target = w .target; period = w .period }
 
 -- The tests that look back, by the state.
 
@@ -114,26 +116,31 @@ pub record Room (m : Mark) (bs : List ℕ) (st : Sheet) : Type 0 where
 
 -- One step.
 
--- the state one record of so many bytes further on
-abbrev pub onward : ℕ → Sheet → Sheet
-onward bytes st =
+-- the state with these numbers, one record of so many bytes further on
+abbrev pub row : Sheet → ℕ → ℕ → ℕ → ℕ → ℕ → ℕ → ℕ → ℕ → ℕ → ℕ → Bool → Bool → List ℕ → List Bool → Sheet
+row st bytes horizon modules modes tasks switches stated seen period held switching ended periods named =
     record {
       at = st .at + bytes;
       records = st .records + 1;
-      horizon = st .horizon;
-      modules = st .modules;
-      modes = st .modes;
-      tasks = st .tasks;
-      switches = st .switches;
-      stated = st .stated;
-      seen = st .seen;
-      period = st .period;
-      held = st .held;
-      switching = st .switching;
-      ended = st .ended;
-      periods = st .periods;
-      named = st .named;
+      horizon = horizon;
+      modules = modules;
+      modes = modes;
+      tasks = tasks;
+      switches = switches;
+      stated = stated;
+      seen = seen;
+      period = period;
+      held = held;
+      switching = switching;
+      ended = ended;
+      periods = periods;
+      named = named;
     }
+
+-- the state as it was, one record further on
+abbrev pub onward : ℕ → Sheet → Sheet
+onward bytes st =
+    row st bytes (st .horizon) (st .modules) (st .modes) (st .tasks) (st .switches) (st .stated) (st .seen) (st .period) (st .held) (st .switching) (st .ended) (st .periods) (st .named)
 
 -- the turn t is what the tests of the record after rs say: the fault's number at this place, or the records with this one
 unfoldable pub Turned : Sheet → Turn → List Record → Tested → Type 0

@@ -13,7 +13,7 @@ abbrev pub told : Judged → Told
 told (Refused number place) = told-refused number place
 told (Accepted modules modes tasks switches horizon) = told-accepted (record { modules = modules; modes = modes; tasks = tasks; switches = switches }) horizon
 
--- what the judgement has told to be
+-- what an answer has to tell
 abbrev pub tellsOf : Judgement → Told
 tellsOf (refused number place) = told-refused number place
 tellsOf (accepted s) = told-accepted (counts s) (s .horizon)

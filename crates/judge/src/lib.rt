@@ -4,7 +4,7 @@ ghost use mathlib.Core.List.{[]};
 ghost use Prim.Native.Nat.{_+_, _<_, _≤_};
 ghost use lib.ListN.{length, getD};
 ghost use Rattle.model.specs.Limits.{maxModes, maxModeTasks, maxBytes, workNumbers};
-ghost use Rattle.format.specs.Record.{HZ, ML, MD, TK, SW, EN, size, fieldAt, markCoded, markAt};
+ghost use Rattle.format.specs.Record.{HZ, ML, MD, TK, SW, EN, tk, sw, size, fieldAt, markCoded, markAt, recordAt};
 ghost use Rattle.format.specs.Rules.{between, divides, taskRuled};
 ghost use Rattle.format.specs.Judgement.{judgement};
 ghost use Rattle.judge.specs.Told.{told, tellsOf};
@@ -32,6 +32,20 @@ enum Mark {
     Tk,
     Sw,
     En,
+}
+
+// The fields of TK; LET is called due.
+struct Task {
+    offset: u16,
+    cost: u16,
+    due: u16,
+    period: u16,
+}
+
+// The fields of SW.
+struct Switch {
+    target: u16,
+    period: u16,
 }
 
 // What the two bytes of a mark say.
@@ -81,7 +95,9 @@ fn field(s: &[u8], i: usize) -> u16
     requires { ⌜ i + 2 ≤ length (now s) ⌝ }
     ensures { λ r. ⌜ r ≡ fieldAt (now (s .entry)) i ⌝ }
 {
-    byte(s, i) + 256 * byte(s, i + 1)
+    let low = byte(s, i);
+    let high = byte(s, i + 1);
+    low + 256 * high
 }
 
 // The mark whose two bytes are this number, the first one high.
@@ -105,6 +121,33 @@ fn mark_at(s: &[u8], i: usize) -> Found
     ensures { λ r. ⌜ found r ≡ markAt (now (s .entry)) i ⌝ }
 {
     listed(byte(s, i) * 256 + byte(s, i + 1))
+}
+
+// The fields of the TK at i.
+fn task_at(s: &[u8], i: usize) -> Task
+    requires { ⌜ i + size TK ≤ length (now s) ⌝ }
+    ensures { λ r. ⌜ tk (taskOf r) ≡ recordAt TK (now (s .entry)) i ⌝ }
+{
+    let offset = field(s, i + 2);
+    let cost = field(s, i + 4);
+    let due = field(s, i + 6);
+    let period = field(s, i + 8);
+    Task {
+        offset,
+        cost,
+        due,
+        period,
+    }
+}
+
+// The fields of the SW at i.
+fn switch_at(s: &[u8], i: usize) -> Switch
+    requires { ⌜ i + size SW ≤ length (now s) ⌝ }
+    ensures { λ r. ⌜ sw (switchOf r) ≡ recordAt SW (now (s .entry)) i ⌝ }
+{
+    let target = field(s, i + 2);
+    let period = field(s, i + 4);
+    Switch { target, period }
 }
 
 // How many bytes a record of this mark has.
@@ -140,24 +183,25 @@ fn is_divisor(p: u16, n: u16) -> bool
     n % p == 0
 }
 
-// The task rules, in a mode of the period mode; LET is called due.
-fn task_keeps(mode: u16, offset: u16, cost: u16, due: u16, period: u16) -> bool
-    ensures { λ r. ⌜ r ≡ taskRuled mode (taskOf offset cost due period) ⌝ }
+// The task rules, in a mode of the period mode.
+fn task_keeps(mode: u16, k: Task) -> bool
+    ensures { λ r. ⌜ r ≡ taskRuled mode (taskOf k) ⌝ }
 {
-    if cost < 1 {
+    if k.cost < 1 {
         return false;
     }
-    if due < cost {
+    if k.due < k.cost {
         return false;
     }
-    if (period as u32) < offset as u32 + due as u32 {
+    if (k.period as u32) < k.offset as u32 + k.due as u32 {
         return false;
     }
-    is_divisor(period, mode)
+    is_divisor(k.period, mode)
 }
 
-// What has been read so far: where the next record begins, the counts, and the module and the mode that are open.
+// What has been read so far.
 pub struct Sheet {
+    // Where the next record begins.
     at: usize,
     records: u16,
     horizon: u16,
@@ -165,12 +209,16 @@ pub struct Sheet {
     modes: u16,
     tasks: u16,
     switches: u16,
+    // How many modes the open module states, and how many of them are read.
     stated: u16,
     seen: u16,
+    // The open mode: its period, how many tasks it has, whether it has a switch.
     period: u16,
     held: u16,
     switching: bool,
+    // EN is read.
     ended: bool,
+    // Of the open mode: the periods of its tasks, and the modes that its switches name.
     periods: [u16; Sheet::MAX_MODE_TASKS as usize],
     named: [bool; Sheet::MAX_MODES as usize],
 }
@@ -329,15 +377,12 @@ impl Sheet {
         if Self::MAX_TASKS <= self.tasks {
             return self.refused(PAST_COUNT, at);
         }
-        let offset = field(s, at + 2);
-        let cost = field(s, at + 4);
-        let due = field(s, at + 6);
-        let period = field(s, at + 8);
-        if !task_keeps(self.period, offset, cost, due, period) {
+        let k = task_at(s, at);
+        if !task_keeps(self.period, k) {
             return self.refused(BAD_FIELD, at);
         }
         let i = self.held as usize;
-        self.periods[i] = period;
+        self.periods[i] = k.period;
         self.held = self.held + 1;
         self.tasks = self.tasks + 1;
         self.past(Mark::Tk)
@@ -361,24 +406,24 @@ impl Sheet {
     }
 
     // The switch rules, in the mode that is open.
-    fn switch_keeps(self, target: u16, period: u16) -> bool
+    fn switch_keeps(self, w: Switch) -> bool
         requires { ⌜ (self .held ≤ maxModeTasks) × (self .stated ≤ maxModes) ⌝ }
-        ensures { λ r. ⌜ r ≡ switchKept self (switchOf target period) ⌝ }
+        ensures { λ r. ⌜ r ≡ switchKept self (switchOf w) ⌝ }
     {
-        if self.stated <= target {
+        if self.stated <= w.target {
             return false;
         }
-        if target + 1 == self.seen {
+        if w.target + 1 == self.seen {
             return false;
         }
-        let k = target as usize;
+        let k = w.target as usize;
         if self.named[k] {
             return false;
         }
-        if !is_divisor(period, self.period) {
+        if !is_divisor(w.period, self.period) {
             return false;
         }
-        self.spans_tasks(period)
+        self.spans_tasks(w.period)
     }
 
     fn switch_record(mut self, s: &[u8]) -> Turn
@@ -389,12 +434,11 @@ impl Sheet {
         if Self::MAX_SWITCHES <= self.switches {
             return self.refused(PAST_COUNT, at);
         }
-        let target = field(s, at + 2);
-        let period = field(s, at + 4);
-        if !self.switch_keeps(target, period) {
+        let w = switch_at(s, at);
+        if !self.switch_keeps(w) {
             return self.refused(BAD_SWITCH, at);
         }
-        let k = target as usize;
+        let k = w.target as usize;
         self.named[k] = true;
         self.switches = self.switches + 1;
         self.switching = true;

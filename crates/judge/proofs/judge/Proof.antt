@@ -4,8 +4,8 @@ use Prim.Native.Nat.{_-_, _≤_, _<_}
 use native.Mathlib.Omega.{arith}
 use lib.ListN.{length}
 use denote.Ref.{now}
-use borrow.Author.Tests.{not-true, not-false}
 use borrow.Author.Needs.{needs}
+use borrow.Author.Tests.{not-true, not-false}
 use Rattle.judge.specs.Told.{tellsOf}
 use Rattle.judge.proofs.Reached.{Reached, begins, within, goes-on, is-refused, is-followed, is-accepted}
 use Rattle.judge.proofs.judge.Statement.{statement}

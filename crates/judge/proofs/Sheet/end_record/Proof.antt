@@ -1,9 +1,9 @@
 -- `Sheet::end_record` judges EN. Assumes nothing.
 use mathlib.Core.Path.{refl}
-use borrow.Author.Tests.{eq-eqb, ne-eqb}
 use borrow.Author.Needs.{needs}
-use Rattle.format.specs.Rules.{counted, ruled}
+use borrow.Author.Tests.{eq-eqb, ne-eqb}
 use Rattle.format.specs.Record.{EN, en}
+use Rattle.format.specs.Rules.{counted, ruled}
 use Rattle.judge.proofs.Turns.{out-of-rule, all-right}
 use Rattle.judge.proofs.Sheet.end_record.Statement.{statement}
 use Rattle.judge.proofs.Sheet.end_record.Tie as tie

@@ -1,8 +1,8 @@
 -- `Sheet::horizon_record` judges HZ. Assumes nothing.
 use mathlib.Core.Path.{refl}
 use borrow.Author.Needs.{needs}
-use Rattle.format.specs.Rules.{counted, ruled}
 use Rattle.format.specs.Record.{HZ, hz}
+use Rattle.format.specs.Rules.{counted, ruled}
 use Rattle.judge.proofs.Turns.{said-no, said-yes, out-of-rule, all-right}
 use Rattle.judge.proofs.Sheet.horizon_record.Statement.{statement}
 use Rattle.judge.proofs.Sheet.horizon_record.Tie as tie

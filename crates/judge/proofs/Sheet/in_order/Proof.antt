@@ -1,6 +1,6 @@
 -- `Sheet::in_order` is the order by the state. Assumes nothing.
-use borrow.Author.Tests.{lt-ltb, le-ltb}
 use borrow.Author.Needs.{needs}
+use borrow.Author.Tests.{lt-ltb, le-ltb}
 use Rattle.judge.proofs.Sheet.in_order.Statement.{statement}
 use Rattle.judge.proofs.Sheet.in_order.Tie as tie
 

@@ -1,8 +1,8 @@
 -- `Sheet::mode_record` judges MD. Assumes nothing.
 use mathlib.Core.Path.{refl}
 use borrow.Author.Needs.{needs}
-use Rattle.format.specs.Rules.{counted, ruled}
 use Rattle.format.specs.Record.{MD, md}
+use Rattle.format.specs.Rules.{counted, ruled}
 use Rattle.judge.proofs.Turns.{said-no, said-yes, out-of-rule, all-right}
 use Rattle.judge.proofs.Sheet.mode_record.Statement.{statement}
 use Rattle.judge.proofs.Sheet.mode_record.Tie as tie

@@ -1,8 +1,8 @@
 -- `Sheet::module_record` judges ML. Assumes nothing.
-use borrow.Author.Tests.{le-ltb, lt-ltb}
 use borrow.Author.Needs.{needs}
-use Rattle.format.specs.Rules.{counted, ruled}
+use borrow.Author.Tests.{le-ltb, lt-ltb}
 use Rattle.format.specs.Record.{ML, ml}
+use Rattle.format.specs.Rules.{counted, ruled}
 use Rattle.judge.proofs.Turns.{said-no, said-yes, over-count, out-of-rule, all-right}
 use Rattle.judge.proofs.Sheet.module_record.Statement.{statement}
 use Rattle.judge.proofs.Sheet.module_record.Tie as tie

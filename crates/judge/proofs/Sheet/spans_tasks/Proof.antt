@@ -1,12 +1,11 @@
 -- `Sheet::spans_tasks` is the test of every task period of the mode. The loop's invariant: each period passed divides the number. The measure is what is left of the periods. Assumes nothing.
+use mathlib.Core.Path.{_≡_, refl, sym}
 use mathlib.Core.Bool.{true}
-use mathlib.Core.Path.{_≡_, refl, sym, _∙_}
 use Prim.Native.Nat.{_≤_, _-_}
 use native.Mathlib.Omega.{arith}
-use borrow.Author.Tests.{not-true, not-false}
 use borrow.Author.Needs.{needs}
 use Rattle.judge.specs.Reading.{eachOf}
-use Rattle.judge.proofs.Turns.{each-goes, each-fails}
+use Rattle.judge.proofs.Turns.{said-no, said-yes, each-goes, each-fails}
 use Rattle.judge.proofs.Sheet.spans_tasks.Statement.{statement}
 use Rattle.judge.proofs.Sheet.spans_tasks.Tie as tie
 
@@ -32,7 +31,7 @@ is-divisor-requires : tie.Need-is-divisor-requires Inv-loop μ-loop
 is-divisor-requires c κs = search needs
 
 returns : tie.Need-returns Inv-loop μ-loop
-returns c = sym (each-fails _ _ (c .before .before .before .before .loop .i) (c .before .before .before .before .before .args .t1 .held) (omega arith) (sym (c .before .is-divisor .ensures) ∙ not-true (c .before .is-divisor .result) (c .if1 .taken)))
+returns c = sym (each-fails _ _ (c .before .before .before .before .loop .i) (c .before .before .before .before .before .args .t1 .held) (omega arith) (said-no (c .before .is-divisor .ensures) (c .if1 .taken)))
 
 add-i : tie.Need-add-i Inv-loop μ-loop
 add-i c = search needs
@@ -41,7 +40,7 @@ loop-less : tie.Need-loop-less Inv-loop μ-loop
 loop-less c = search needs
 
 loop-again : tie.Need-loop-again Inv-loop μ-loop
-loop-again c = (refl, omega arith, each-goes _ _ (c .before .before .before .before .loop .i) (c .before .before .before .before .loop .inv .2) (sym (c .before .is-divisor .ensures) ∙ not-false (c .before .is-divisor .result) (c .if1 .left)))
+loop-again c = (refl, omega arith, each-goes _ _ (c .before .before .before .before .loop .i) (c .before .before .before .before .loop .inv .2) (said-yes (c .before .is-divisor .ensures) (c .if1 .left)))
 
 returns-2 : tie.Need-returns-2 Inv-loop μ-loop
 returns-2 c =

@@ -1,14 +1,13 @@
 -- `Sheet::step` tests one record. Assumes nothing.
-use mathlib.Core.Option.{some}
 use mathlib.Core.Path.{_≡_, sym, _∙_, ap}
+use mathlib.Core.Option.{some}
 use native.Mathlib.Omega.{arith}
 use denote.Ref.{now}
-use borrow.Author.Tests.{not-true, not-false}
 use borrow.Author.Needs.{needs}
-use Rattle.format.specs.Refusal.{Whole}
 use Rattle.format.specs.Record.{markAt}
+use Rattle.format.specs.Refusal.{Whole}
 use Rattle.judge.specs.Reading.{marked, found}
-use Rattle.judge.proofs.Turns.{no-bytes, no-mark, cut-short, out-of-order, in-order}
+use Rattle.judge.proofs.Turns.{said-no, said-yes, no-bytes, no-mark, cut-short, out-of-order, in-order}
 use Rattle.judge.proofs.Sheet.step.Statement.{statement}
 use Rattle.judge.proofs.Sheet.step.Tie as tie
 
@@ -63,13 +62,13 @@ refused-requires-4 : tie.Need-refused-requires-4
 refused-requires-4 c κs = search needs
 
 returns-4 : tie.Need-returns-4
-returns-4 c = λ rs h. out-of-order _ _ _ rs _ (is-whole (c .before .before .before)) h (sym (c .before .before .in-order .ensures) ∙ not-true (c .before .before .in-order .result) (c .before .if3 .taken)) (c .refused4 .ensures)
+returns-4 c = λ rs h. out-of-order _ _ _ rs _ (is-whole (c .before .before .before)) h (said-no (c .before .before .in-order .ensures) (c .before .if3 .taken)) (c .refused4 .ensures)
 
 judge-fields-requires : tie.Need-judge-fields-requires
 judge-fields-requires c κs = record { within = c .before .before .before .before .before .before .before .before .before .before .pre; fits = is-whole (c .before .before) .fits }
 
 returns-5 : tie.Need-returns-5
-returns-5 c = λ rs h. in-order _ _ _ rs _ (is-whole (c .before .before .before)) h (sym (c .before .before .in-order .ensures) ∙ not-false (c .before .before .in-order .result) (c .before .if3 .left)) (c .judge-fields .ensures rs h)
+returns-5 c = λ rs h. in-order _ _ _ rs _ (is-whole (c .before .before .before)) h (said-yes (c .before .before .in-order .ensures) (c .before .if3 .left)) (c .judge-fields .ensures rs h)
 
 pub step-spec : {M : Type 1} → statement M
 step-spec =

@@ -2,20 +2,19 @@
 use mathlib.Core.Path.{_∙_}
 use Prim.Native.Nat.{_<_}
 use native.Mathlib.Omega.{arith}
-use borrow.Author.Tests.{le-ltb, lt-ltb}
 use borrow.Author.Needs.{needs}
+use borrow.Author.Tests.{le-ltb, lt-ltb}
 use Rattle.model.specs.Limits.{maxModes}
+use Rattle.format.specs.Record.{SW}
 use Rattle.format.specs.Rules.{counted, ruled}
-use Rattle.format.specs.Record.{SW, sw}
-use Rattle.judge.specs.Reading.{switchOf}
 use Rattle.judge.proofs.Turns.{said-no, said-yes, switch-same, target-in, over-count, out-of-rule, all-right}
 use Rattle.judge.proofs.Sheet.switch_record.Statement.{statement}
 use Rattle.judge.proofs.Sheet.switch_record.Tie as tie
 
 -- a switch that keeps the rules names one of the modes that there is room for
-target-fits : (c : tie.Else2) → c .before .before .before .field .result < maxModes
+target-fits : (c : tie.Else2) → c .before .before .switch-at .result .target < maxModes
 target-fits c =
-    omega (arith, c .before .before .before .before .before .before .pre .within .stated, target-in _ _ (said-yes (c .before .switch-keeps .ensures) (c .if2 .left)))
+    omega (arith, c .before .before .before .before .before .pre .within .stated, target-in _ _ (said-yes (c .before .switch-keeps .ensures) (c .if2 .left)))
 
 refused-requires : tie.Need-refused-requires
 refused-requires c κs = search needs
@@ -24,17 +23,8 @@ returns : tie.Need-returns
 unfolding counted
 returns c = λ rs h. over-count _ _ rs _ _ (rw (← h .switches) (le-ltb _ _ (c .before .if1 .taken))) (c .refused .ensures)
 
-add-field : tie.Need-add-field
-add-field c = search needs
-
-field-requires : tie.Need-field-requires
-field-requires c κs = search needs
-
-add-field-2 : tie.Need-add-field-2
-add-field-2 c = search needs
-
-field-requires-2 : tie.Need-field-requires-2
-field-requires-2 c κs = search needs
+switch-at-requires : tie.Need-switch-at-requires
+switch-at-requires c κs = search needs
 
 switch-keeps-requires : tie.Need-switch-keeps-requires
 switch-keeps-requires c κs = search needs
@@ -44,13 +34,13 @@ refused-requires-2 c κs = search needs
 
 returns-2 : tie.Need-returns-2
 unfolding counted ruled
-returns-2 c = λ rs h. rw (← c .before .before .before .before .field .ensures, ← c .before .before .before .field2 .ensures) (out-of-rule _ _ rs SW (sw (switchOf (c .before .before .before .before .field .result) (c .before .before .before .field2 .result))) (rw (← h .switches) (lt-ltb _ _ (c .before .before .before .before .before .if1 .left))) (said-no (c .before .before .switch-keeps .ensures ∙ switch-same _ rs h _) (c .before .if2 .taken)) (c .refused2 .ensures))
+returns-2 c = λ rs h. rw (← c .before .before .before .switch-at .ensures) (out-of-rule _ _ rs SW _ (rw (← h .switches) (lt-ltb _ _ (c .before .before .before .before .if1 .left))) (said-no (c .before .before .switch-keeps .ensures ∙ switch-same _ rs h _) (c .before .if2 .taken)) (c .refused2 .ensures))
 
 cast-k : tie.Need-cast-k
 cast-k c = search needs
 
 element-write-self : tie.Need-element-write-self
-element-write-self c = target-fits c
+element-write-self c = target-fits (c .before)
 
 add-self : tie.Need-add-self
 add-self c = search needs
@@ -60,7 +50,7 @@ past-requires c κs = search needs
 
 returns-3 : tie.Need-returns-3
 unfolding counted ruled
-returns-3 c = λ rs h. rw (← c .before .before .before .before .field .ensures, ← c .before .before .before .field2 .ensures) (all-right _ _ rs SW (sw (switchOf (c .before .before .before .before .field .result) (c .before .before .before .field2 .result))) (rw (← h .switches) (lt-ltb _ _ (c .before .before .before .before .before .if1 .left))) (said-yes (c .before .before .switch-keeps .ensures ∙ switch-same _ rs h _) (c .before .if2 .left)) h (c .before .before .before .before .before .before .before .pre .within .going) (target-fits (c .before)) (c .past .ensures))
+returns-3 c = λ rs h. rw (← c .before .before .before .before .switch-at .ensures) (all-right _ _ rs SW _ (rw (← h .switches) (lt-ltb _ _ (c .before .before .before .before .before .if1 .left))) (said-yes (c .before .before .before .switch-keeps .ensures ∙ switch-same _ rs h _) (c .before .before .if2 .left)) h (c .before .before .before .before .before .before .before .pre .within .going) (target-fits (c .before .before)) (c .past .ensures))
 
 pub switch-record-spec : {M : Type 1} → statement M
 switch-record-spec =
@@ -68,10 +58,7 @@ switch-record-spec =
     (tie.spec
     refused-requires
     returns
-    add-field
-    field-requires
-    add-field-2
-    field-requires-2
+    switch-at-requires
     switch-keeps-requires
     refused-requires-2
     returns-2

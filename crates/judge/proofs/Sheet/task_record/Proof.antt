@@ -1,13 +1,12 @@
 -- `Sheet::task_record` judges TK. Assumes nothing.
-use mathlib.Core.List.{List}
-use mathlib.Core.Bool.{true}
 use mathlib.Core.Path.{_≡_}
-use denote.Ref.{now}
-use borrow.Author.Tests.{le-ltb, lt-ltb}
+use mathlib.Core.Bool.{true}
+use mathlib.Core.List.{List}
 use borrow.Author.Needs.{needs}
+use borrow.Author.Tests.{le-ltb, lt-ltb}
+use Rattle.format.specs.Record.{TK, Record}
 use Rattle.format.specs.Rules.{counted, ruled}
-use Rattle.format.specs.Record.{TK, Record, tk, recordAt}
-use Rattle.judge.specs.Reading.{taskOf, Reads}
+use Rattle.judge.specs.Reading.{Reads}
 use Rattle.judge.proofs.Turns.{said-no, said-yes, over-count, out-of-rule, all-right}
 use Rattle.judge.proofs.Sheet.task_record.Statement.{statement}
 use Rattle.judge.proofs.Sheet.task_record.Tie as tie
@@ -16,11 +15,6 @@ use Rattle.judge.proofs.Sheet.task_record.Tie as tie
 in-count : (c : tie.Else2) (rs : List Record) → Reads (c .before .before .before .args .t1) rs → counted TK rs ≡ true
 unfolding counted
 in-count c rs h = rw (← h .held, ← h .tasks, lt-ltb _ _ (c .before .if1 .left)) (lt-ltb _ _ (c .if2 .left))
-
--- the four fields that are read are the record
-is-task : (c : tie.After-field4) → tk (taskOf (c .before .before .before .field .result) (c .before .before .field2 .result) (c .before .field3 .result) (c .field4 .result))
-    ≡ recordAt TK (now (c .before .before .before .before .before .before .before .args .s)) (c .before .before .before .before .before .before .before .args .t1 .at)
-is-task c = rw (c .before .before .before .field .ensures, c .before .before .field2 .ensures, c .before .field3 .ensures, c .field4 .ensures)
 
 refused-requires : tie.Need-refused-requires
 refused-requires c κs = search needs
@@ -36,29 +30,8 @@ returns-2 : tie.Need-returns-2
 unfolding counted
 returns-2 c = λ rs h. over-count _ _ rs _ _ (rw (← h .held, ← h .tasks, lt-ltb _ _ (c .before .before .if1 .left)) (le-ltb _ _ (c .before .if2 .taken))) (c .refused2 .ensures)
 
-add-field : tie.Need-add-field
-add-field c = search needs
-
-field-requires : tie.Need-field-requires
-field-requires c κs = search needs
-
-add-field-2 : tie.Need-add-field-2
-add-field-2 c = search needs
-
-field-requires-2 : tie.Need-field-requires-2
-field-requires-2 c κs = search needs
-
-add-field-3 : tie.Need-add-field-3
-add-field-3 c = search needs
-
-field-requires-3 : tie.Need-field-requires-3
-field-requires-3 c κs = search needs
-
-add-field-4 : tie.Need-add-field-4
-add-field-4 c = search needs
-
-field-requires-4 : tie.Need-field-requires-4
-field-requires-4 c κs = search needs
+task-at-requires : tie.Need-task-at-requires
+task-at-requires c κs = search needs
 
 task-keeps-requires : tie.Need-task-keeps-requires
 task-keeps-requires c κs = search needs
@@ -68,7 +41,7 @@ refused-requires-3 c κs = search needs
 
 returns-3 : tie.Need-returns-3
 unfolding ruled
-returns-3 c = λ rs h. rw (← is-task (c .before .before .before)) (out-of-rule _ _ rs TK _ (in-count (c .before .before .before .before .before .before .before) rs h) (rw (← h .period) (said-no (c .before .before .task-keeps .ensures) (c .before .if3 .taken))) (c .refused3 .ensures))
+returns-3 c = λ rs h. rw (← c .before .before .before .task-at .ensures) (out-of-rule _ _ rs TK _ (in-count (c .before .before .before .before) rs h) (rw (← h .period) (said-no (c .before .before .task-keeps .ensures) (c .before .if3 .taken))) (c .refused3 .ensures))
 
 cast-i : tie.Need-cast-i
 cast-i c = search needs
@@ -90,7 +63,7 @@ past-requires c κs = search needs
 
 returns-4 : tie.Need-returns-4
 unfolding ruled
-returns-4 c = λ rs h. rw (← is-task (c .before .before .before)) (all-right _ _ rs TK _ (in-count (c .before .before .before .before .before .before .before) rs h) (rw (← h .period) (said-yes (c .before .before .task-keeps .ensures) (c .before .if3 .left))) h (c .before .before .before .before .before .before .before .before .before .before .pre .within .going) (c .before .before .before .before .before .before .before .before .if1 .left) (c .past .ensures))
+returns-4 c = λ rs h. rw (← c .before .before .before .task-at .ensures) (all-right _ _ rs TK _ (in-count (c .before .before .before .before) rs h) (rw (← h .period) (said-yes (c .before .before .task-keeps .ensures) (c .before .if3 .left))) h (c .before .before .before .before .before .before .before .pre .within .going) (c .before .before .before .before .before .if1 .left) (c .past .ensures))
 
 pub task-record-spec : {M : Type 1} → statement M
 task-record-spec =
@@ -100,14 +73,7 @@ task-record-spec =
     returns
     refused-requires-2
     returns-2
-    add-field
-    field-requires
-    add-field-2
-    field-requires-2
-    add-field-3
-    field-requires-3
-    add-field-4
-    field-requires-4
+    task-at-requires
     task-keeps-requires
     refused-requires-3
     returns-3
