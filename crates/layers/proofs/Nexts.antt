@@ -92,10 +92,10 @@ module _ (m : Module) (s : Shape) (numbers heads : List ℕ) (f : State → ℕ)
 
 -- behind the first task's four numbers
 module _ (k : Task) (ks : List Task) (i : ℕ) where
-  behind : (j n : ℕ) → n ≡ 4 * suc i + j → look (taskNumbers (k ∷ ks)) n ≡ look (taskNumbers ks) (4 * i + j)
+  pub behind : (j n : ℕ) → n ≡ 4 * suc i + j → look (taskNumbers (k ∷ ks)) n ≡ look (taskNumbers ks) (4 * i + j)
   behind j n e = let f : n ≡ suc (suc (suc (suc (4 * i + j)))) = omega arith in rw f
 
-  behind-first : look (taskNumbers (k ∷ ks)) (4 * suc i) ≡ look (taskNumbers ks) (4 * i)
+  pub behind-first : look (taskNumbers (k ∷ ks)) (4 * suc i) ≡ look (taskNumbers ks) (4 * i)
   behind-first = behind 0 (4 * suc i) (omega arith) ∙ ap (look (taskNumbers ks)) (omega arith)
 
   due-behind : (l d : ℕ) → due (taskNumbers (k ∷ ks)) l d (suc i) ≡ due (taskNumbers ks) l d i

@@ -31,7 +31,7 @@ module _ (w : List ℕ) (a p : ℕ) (fits : a + p ≤ length w) where
   pub part-next : (d : ℕ) → d < p → look (midOf a (a + p - a) w) (next (length (midOf a (a + p - a) w)) d) ≡ look w (a + next p d)
   part-next d h = ap (λ (n : ℕ). look (midOf a (a + p - a) w) (next n d)) part-length ∙ part-look (next p d) (next-inside p d h)
 
-  back-below : (ys : List ℕ) (x : ℕ) → x < a → look (putMid a (a + p - a) w ys) x ≡ look w x
+  pub back-below : (ys : List ℕ) (x : ℕ) → x < a → look (putMid a (a + p - a) w ys) x ≡ look w x
   back-below ys x h =
       let l : length (take a w) ≡ a = length-take-le a w (omega arith) in
       List·getD-append (take a w) (ys ++ postOf a (a + p - a) w) 0 x (omega arith) ∙ getD-take a w x 0 h
@@ -42,7 +42,7 @@ module _ (w : List ℕ) (a p : ℕ) (fits : a + p ≤ length w) where
       ap (λ (n : ℕ). look (putMid a (a + p - a) w ys) (n + d)) (sym l) ∙ getD-append-add (take a w) (ys ++ postOf a (a + p - a) w) d 0
       ∙ List·getD-append ys (postOf a (a + p - a) w) 0 d (omega arith)
 
-  back-above : (ys : List ℕ) → length ys ≡ p → (x : ℕ) → a + p ≤ x → look (putMid a (a + p - a) w ys) x ≡ look w x
+  pub back-above : (ys : List ℕ) → length ys ≡ p → (x : ℕ) → a + p ≤ x → look (putMid a (a + p - a) w ys) x ≡ look w x
   back-above ys e x h =
       let y : ℕ = x - (a + p) in
       let q : a + p + y ≡ x = omega arith in

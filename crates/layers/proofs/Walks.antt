@@ -16,7 +16,7 @@ use Rattle.layers.specs.Step.{look, Moved, raised, added, next, Shifted,
 use Rattle.layers.proofs.Sums.{sum-grows}
 
 -- between i and i + t no number has i's remainder
-skips : (t i d : ℕ) → i < d → d < i + t → d % t ≢ i % t
+pub skips : (t i d : ℕ) → i < d → d < i + t → d % t ≢ i % t
 skips t i d h k e = pick (decLt (i / t) (d / t))
   where
     pick : Dec (i / t < d / t) → ⊥

@@ -1,8 +1,12 @@
 // At which ticks the modes of a module can be begun.
 ghost use mathlib.Core.Path.{_≡_};
-ghost use Prim.Native.Nat.{_+_, _*_, _/_, _≤_, _<_};
+ghost use mathlib.Core.Bool.{true};
+ghost use Prim.Native.Nat.{_+_, _*_, _/_, _≤_, _<_, min};
 ghost use lib.ListN.{length};
+ghost use Rattle.layers.specs.Step.{period, lists, every};
 ghost use Rattle.marks.specs.Marks.{marked};
+ghost use Rattle.marks.specs.Marking.{Marking, Room, Stride, Opens, Follows, Tick, Walkable, FollowedBy, Kept, Entered};
+use layers::Shape;
 
 // Whether tick t of mode k is marked.
 pub fn is_marked(bits: &[u32], k: usize, t: usize) -> bool
@@ -10,4 +14,112 @@ pub fn is_marked(bits: &[u32], k: usize, t: usize) -> bool
     ensures { λ r. ⌜ r ≡ marked (now (bits .entry)) k t ⌝ }
 {
     (bits[63 * k + t / 32] >> (t % 32)) % 2 == 1
+}
+
+fn lesser(a: usize, b: usize) -> usize
+    ensures { λ r. ⌜ r ≡ min a b ⌝ }
+{
+    if a < b { a } else { b }
+}
+
+// Mode k can be begun at tick t.
+fn mark(bits: &mut [u32], k: usize, t: usize)
+    requires { ⌜ (k < 8) × (t < 2016) × (504 ≤ length (now bits)) ⌝ }
+    ensures { λ _. ⌜ Marking (λ j x. (j ≡ k) × (x ≡ t)) (now (bits .entry)) (now (bits .exit)) ⌝ }
+{
+    let x = 63 * k + t / 32;
+    bits[x] = bits[x] | (1 << (t % 32));
+}
+
+// Mode k of period p begins again.
+fn mark_again(bits: &mut [u32], horizon: usize, t: usize, p: u16, k: usize)
+    requires { ⌜ (k < 8) × (Room horizon t (now bits)) ⌝ }
+    ensures { λ _. ⌜ Marking (λ j x. (j ≡ k) × (x ≡ t + p) × (x ≤ horizon)) (now (bits .entry)) (now (bits .exit)) ⌝ }
+{
+    let x = t + p as usize;
+    if x <= horizon {
+        mark(bits, k, x);
+    }
+}
+
+// Mode j is begun by a switch of period q, in a stay of p ticks from t on.
+fn mark_switch(bits: &mut [u32], horizon: usize, t: usize, p: u16, q: u16, j: usize)
+    requires { ⌜ (j < 8) × (1 ≤ q) × (Room horizon t (now bits)) ⌝ }
+    ensures { λ _. ⌜ Marking (λ k x. (k ≡ j) × (x ≤ horizon) × (Stride p q t x)) (now (bits .entry)) (now (bits .exit)) ⌝ }
+{
+    let step = q as usize;
+    let n = lesser(horizon - t, p as usize) / step;
+    let mut i = 1;
+    while i <= n {
+        mark(bits, j, t + i * step);
+        i += 1;
+    }
+}
+
+// Mode j, where mode k lists it.
+fn mark_target(bits: &mut [u32], horizon: usize, t: usize, shape: Shape, k: usize, j: usize)
+    requires { ⌜ (k < 8) × (j < 8) × (lists shape k j ≡ true → 1 ≤ every shape k j) × (Room horizon t (now bits)) ⌝ }
+    ensures { λ _. ⌜ Marking (λ i x. (i ≡ j) × (lists shape k j ≡ true) × (x ≤ horizon) × (Stride (period shape k) (every shape k j) t x)) (now (bits .entry)) (now (bits .exit)) ⌝ }
+{
+    let at = 8 * k + j;
+    if shape.listed[at] {
+        mark_switch(bits, horizon, t, shape.periods[k], shape.every[at], j);
+    }
+}
+
+fn mark_targets(bits: &mut [u32], horizon: usize, t: usize, shape: Shape, k: usize)
+    requires { ⌜ (Walkable shape) × (k < shape .modes) × (Room horizon t (now bits)) ⌝ }
+    ensures { λ _. ⌜ Marking (Opens shape horizon k t (shape .modes)) (now (bits .entry)) (now (bits .exit)) ⌝ }
+{
+    let n = shape.modes;
+    let mut j = 0;
+    while j < n {
+        mark_target(bits, horizon, t, shape, k, j);
+        j += 1;
+    }
+}
+
+// What mode k leads to, where it can be begun at tick t.
+fn mark_mode(bits: &mut [u32], horizon: usize, t: usize, shape: Shape, k: usize)
+    requires { ⌜ (Walkable shape) × (k < shape .modes) × (Room horizon t (now bits)) ⌝ }
+    ensures { λ _. ⌜ Marking (λ j x. (marked (now (bits .entry)) k t ≡ true) × (Follows shape horizon k t j x)) (now (bits .entry)) (now (bits .exit)) ⌝ }
+{
+    if is_marked(bits, k, t) {
+        mark_again(bits, horizon, t, shape.periods[k], k);
+        mark_targets(bits, horizon, t, shape, k);
+    }
+}
+
+fn mark_tick(bits: &mut [u32], horizon: usize, t: usize, shape: Shape)
+    requires { ⌜ (Walkable shape) × (Room horizon t (now bits)) ⌝ }
+    ensures { λ _. ⌜ Marking (Tick shape horizon t (shape .modes) (now (bits .entry))) (now (bits .entry)) (now (bits .exit)) ⌝ }
+{
+    let n = shape.modes;
+    let mut k = 0;
+    while k < n {
+        mark_mode(bits, horizon, t, shape, k);
+        k += 1;
+    }
+}
+
+// From the first mark to all marks: those at a tick are made before it is looked at. What begins at the horizon leads beyond it.
+fn follow(bits: &mut [u32], horizon: usize, shape: Shape)
+    requires { ⌜ (Walkable shape) × (Room horizon 0 (now bits)) × (FollowedBy shape horizon 0 (now bits)) ⌝ }
+    ensures { λ _. ⌜ (Kept (now (bits .entry)) (now (bits .exit))) × (FollowedBy shape horizon horizon (now (bits .exit))) ⌝ }
+{
+    let mut t = 0;
+    while t < horizon {
+        mark_tick(bits, horizon, t, shape);
+        t += 1;
+    }
+}
+
+// The ticks up to the horizon at which the modes can be begun.
+pub fn mark_entries(bits: &mut [u32], horizon: usize, shape: Shape)
+    requires { ⌜ (horizon ≤ 2000) × (504 ≤ length (now bits)) × (Walkable shape) ⌝ }
+    ensures { λ _. ⌜ Entered shape horizon (now (bits .entry)) (now (bits .exit)) ⌝ }
+{
+    layers::clear(bits, 504);
+    mark(bits, 0, 0);
+    follow(bits, horizon, shape);
 }

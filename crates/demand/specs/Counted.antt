@@ -1,0 +1,28 @@
+-- The numbers of a task, what is known of them where its instances are counted, and what is counted. Assumes nothing.
+use mathlib.Core.Path.{_≡_}
+use Prim.Native.Nat.{ℕ, _+_, _*_, _≤_}
+use Rattle.model.specs.Sheet.{Task}
+use Rattle.model.specs.Limits.{maxModePeriod}
+use Rattle.model.specs.Demand.{instances}
+use Rattle.demand.specs.declared.Task.{Task as Numbers}
+
+-- the task that has these numbers
+abbrev pub taskOf : Numbers → Task
+taskOf x = record { offset = x .offset; cost = x .cost; LET = x .due; period = x .period }
+
+-- a and b are mode times, in order
+pub record Times (a b : ℕ) : Type 0 where
+  pub order : a ≤ b
+  pub most : b ≤ maxModePeriod
+
+-- a task of an accepted sheet
+pub record Countable (k : Task) : Type 0 where
+  pub works : 1 ≤ k .cost
+  pub fits : k .cost ≤ k .LET
+  pub within : k .offset + k .LET ≤ k .period
+  pub short : k .period ≤ maxModePeriod
+
+-- r is what the task demands from a to b: no more than the ticks to b and one period
+pub record Counted (k : Task) (a b r : ℕ) : Type 0 where
+  pub amount : r ≡ instances k a b * k .cost
+  pub bound : r ≤ 2 * maxModePeriod

@@ -1,0 +1,25 @@
+-- `mark_entries` clears the rows, marks the first entry and follows it to the horizon. Assumes nothing.
+use native.Mathlib.Omega.{arith}
+use borrow.Author.Needs.{needs}
+use Rattle.marks.proofs.Walk.{followed-start, entered}
+use Rattle.marks.proofs.mark_entries.Statement.{statement}
+use Rattle.marks.proofs.mark_entries.Tie as tie
+
+clear-requires : tie.Need-clear-requires
+clear-requires c κs = search needs
+
+mark-requires : tie.Need-mark-requires
+mark-requires c κs = search needs
+
+follow-requires : tie.Need-follow-requires
+follow-requires c κs = (c .before .before .before .before .before .before .before .before .before .before .pre .2, record { within = omega arith; most = c .before .before .before .before .before .before .before .before .before .before .pre .0; numbers = omega (arith, c .before .before .before .mark .ensures .len, c .before .before .before .before .before .before .before .clear .ensures .len) }, followed-start _ _ (c .before .before .before .before .before .before .before .before .before .before .pre .0) _ _ _ (c .before .before .before .before .before .before .before .clear .ensures) (c .before .before .before .mark .ensures))
+
+same-length : tie.Need-same-length
+same-length c = search needs
+
+returns : tie.Need-returns
+returns c = entered _ _ (c .before .before .before .before .before .before .before .before .before .before .clear .ensures) (c .before .before .before .before .before .before .mark .ensures) (c .before .before .follow .ensures .0) (c .before .before .follow .ensures .1)
+
+pub mark-entries-spec : {M : Type 1} → statement M
+mark-entries-spec =
+    tie.close (tie.spec clear-requires mark-requires follow-requires same-length returns)

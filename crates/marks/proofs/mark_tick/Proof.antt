@@ -1,0 +1,49 @@
+-- `mark_tick` marks what the modes lead to that are marked at tick t: those below k are followed. Assumes nothing.
+use Prim.Native.Nat.{_-_, _≤_}
+use native.Mathlib.Omega.{arith}
+use borrow.Author.Needs.{needs}
+use Rattle.marks.specs.Marking.{Marking, Tick}
+use Rattle.marks.proofs.Markings.{marking-at, room-kept, tick-none, tick-more}
+use Rattle.marks.proofs.mark_tick.Statement.{statement}
+use Rattle.marks.proofs.mark_tick.Tie as tie
+
+abbrev Inv-loop : tie.InvT-loop
+Inv-loop bits₀ horizon t shape n k₀ bits k = (k ≤ n) × Marking (Tick shape horizon t k bits₀) bits₀ bits
+
+abbrev μ-loop : tie.MeasureT-loop
+μ-loop bits₀ horizon t shape n k₀ bits k = n - k
+
+loop-holds : tie.Need-loop-holds Inv-loop μ-loop
+loop-holds c = (omega arith, tick-none _ _ _ (c .before .pre .0) (omega arith) _)
+
+mark-mode-requires : tie.Need-mark-mode-requires Inv-loop μ-loop
+mark-mode-requires c κs = (c .before .before .before .before .pre .0, c .before .loop-test .taken, room-kept (c .before .before .loop .inv .1 .len) (c .before .before .before .before .pre .1))
+
+add-k : tie.Need-add-k Inv-loop μ-loop
+add-k c = search needs
+
+loop-less : tie.Need-loop-less Inv-loop μ-loop
+loop-less c = search needs
+
+loop-again : tie.Need-loop-again Inv-loop μ-loop
+loop-again c = (omega arith, tick-more _ _ _ (c .before .before .before .before .before .before .before .pre .0) (omega (arith, c .before .before .before .before .before .before .before .pre .1)) _ (c .before .before .before .before .loop-test .taken) (c .before .before .before .before .before .loop .inv .1) (c .before .before .mark-mode .ensures))
+
+same-length : tie.Need-same-length Inv-loop μ-loop
+same-length c = search needs
+
+returns : tie.Need-returns Inv-loop μ-loop
+returns c = let a = c .before .before .before .args in marking-at (λ k. Tick (a .shape) (a .horizon) (a .t) k (a .bits .now)) _ _ (omega arith) (c .before .loop .inv .1)
+
+pub mark-tick-spec : {M : Type 1} → statement M
+mark-tick-spec =
+    tie.close
+    (tie.spec
+    Inv-loop
+    μ-loop
+    loop-holds
+    mark-mode-requires
+    add-k
+    loop-less
+    loop-again
+    same-length
+    returns)

@@ -1,0 +1,85 @@
+-- How the marks are made: what each step adds to them, and what the walk over the ticks needs and gives. Assumes nothing.
+use mathlib.Core.Path.{_≡_}
+use mathlib.Core.Bool.{true}
+use mathlib.Core.Logic.{_⊎_}
+use mathlib.Core.List.{List}
+use Prim.Native.Nat.{ℕ, _+_, _*_, _≤_, _<_}
+use lib.ListN.{length, getD}
+use Rattle.model.specs.Sheet.{Module}
+use Rattle.model.specs.WellFormed.{ModuleRule}
+use Rattle.entries.specs.Entry.{Entry, Leads}
+use Rattle.layers.specs.declared.Shape.{Shape}
+use Rattle.layers.specs.Step.{period, lists, every}
+use Rattle.layers.specs.Layer.{Told}
+use Rattle.marks.specs.Marks.{markNumbers, marked, Marks}
+
+-- the ticks of a row
+abbrev pub rowTicks : ℕ
+rowTicks = 2016
+
+-- the marks of w′ are those of w and those of P, a relation of modes and ticks; the numbers behind the rows are as they were
+pub record Marking (P : ℕ → ℕ → Type 0) (w w′ : List ℕ) : Type 0 where
+  pub len : length w′ ≡ length w
+  pub above : (x : ℕ) → markNumbers ≤ x → getD w′ x 0 ≡ getD w x 0
+  pub old : (k t : ℕ) → k < 8 → t < rowTicks → marked w k t ≡ true → marked w′ k t ≡ true
+  pub new : (k t : ℕ) → k < 8 → t < rowTicks → P k t → marked w′ k t ≡ true
+  pub only : (k t : ℕ) → k < 8 → t < rowTicks → marked w′ k t ≡ true → (marked w k t ≡ true) ⊎ P k t
+
+-- there is room for the marks, and t is a tick up to the horizon h
+pub record Room (h t : ℕ) (w : List ℕ) : Type 0 where
+  pub within : t ≤ h
+  pub most : h ≤ 2000
+  pub numbers : markNumbers ≤ length w
+
+-- tick x is one of the multiples of q in the p ticks after t
+pub record Stride (p q t x : ℕ) : Type 0 where
+  pub count : ℕ
+  pub some : 1 ≤ count
+  pub fits : count * q ≤ p
+  pub reached : x ≡ t + count * q
+
+-- the switch of the mode k, begun at tick t, to the mode j, which is below n, is open at tick x, up to the horizon h
+pub record Opens (s : Shape) (h k t n j x : ℕ) : Type 0 where
+  pub target : j < n
+  pub listed : lists s k j ≡ true
+  pub within : x ≤ h
+  pub stride : Stride (period s k) (every s k j) t x
+
+-- by these numbers the mode k, begun at tick t, leads to the mode j at tick x, up to the horizon h
+pub data Follows (s : Shape) (h k t j x : ℕ) : Type 0 where
+  again : j ≡ k → x ≡ t + period s k → x ≤ h → Follows s h k t j x
+  switched : Opens s h k t (s .modes) j x → Follows s h k t j x
+
+-- a mode below n that is marked at tick t leads to the mode j at tick x
+pub record Tick (s : Shape) (h t n : ℕ) (w : List ℕ) (j x : ℕ) : Type 0 where
+  pub mode : ℕ
+  pub there : mode < n
+  pub on : marked w mode t ≡ true
+  pub follows : Follows s h mode t j x
+
+-- what the walk needs of the numbers
+pub record Walkable (s : Shape) : Type 0 where
+  pub few : s .modes ≤ 8
+  pub positive : (k : ℕ) → k < s .modes → 1 ≤ period s k
+  pub switches : (k j : ℕ) → k < s .modes → j < s .modes → lists s k j ≡ true → 1 ≤ every s k j
+
+-- the marks are entries, the first entry is marked, and so is all that an entry before tick n leads to
+pub record Followed (m : Module) (h n : ℕ) (w : List ℕ) : Type 0 where
+  pub sound : (k t : ℕ) → k < length (m .modes) → t ≤ h → marked w k t ≡ true → Entry m k t
+  pub first : marked w 0 0 ≡ true
+  pub closed : (j e k x : ℕ) → e < n → x ≤ h → Entry m j e → Leads m j e k x → marked w k x ≡ true
+
+-- the same of whichever module the numbers tell
+abbrev pub FollowedBy : Shape → ℕ → ℕ → List ℕ → Type 0
+FollowedBy s h n w = (m : Module) (numbers : List ℕ) → ModuleRule m → Told m s numbers → Followed m h n w
+
+-- the numbers behind the rows are as they were
+pub record Kept (w w′ : List ℕ) : Type 0 where
+  pub len : length w′ ≡ length w
+  pub above : (x : ℕ) → markNumbers ≤ x → getD w′ x 0 ≡ getD w x 0
+
+-- of whichever module the numbers tell, the marks up to the horizon are the entries; the numbers behind the rows are as they were
+pub record Entered (s : Shape) (h : ℕ) (w w′ : List ℕ) : Type 0 where
+  pub len : length w′ ≡ length w
+  pub above : (x : ℕ) → markNumbers ≤ x → getD w′ x 0 ≡ getD w x 0
+  pub marks : (m : Module) (numbers : List ℕ) → ModuleRule m → Told m s numbers → Marks m h w′

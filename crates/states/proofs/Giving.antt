@@ -1,0 +1,105 @@
+-- What a call learns where its terms are met, and that the figure or the refusal that it then has is its answer. Assumes nothing.
+use mathlib.Core.Path.{_≡_, refl, sym, _∙_, ap, subst}
+use mathlib.Core.Bool.{and-eq-true-iff}
+use mathlib.Core.List.{List}
+use Prim.Native.Nat.{ℕ, _-_, _≤_, _<_}
+use native.Mathlib.Omega.{arith}
+use lib.ListN.{length, drop}
+use lib.Seq.{drop-drop}
+use borrow.Author.Tests.{ltb-true, leb-true}
+use borrow.Rule.Slice.PartMut.{putMid, midOf, mid-len, same-len-mid, drop-put}
+use Rattle.model.specs.Sheet.{Sheet, moduleAt}
+use Rattle.model.specs.Limits.{maxHorizon, maxModules, workNumbers}
+use Rattle.model.specs.Run.{at, modeAt}
+use Rattle.model.specs.Demand.{value, moduleDemand}
+use Rattle.format.specs.Judgement.{sheetIn, Accepted}
+use Rattle.format.proofs.RoundTrip.{accepted-wellFormed}
+use Rattle.query.specs.Answer.{Terms, refused, given, answerOf, answer}
+use Rattle.query.specs.Query.{stateTerms, moduleTerms, StateAnswer, ModuleAnswer}
+use Rattle.query.proofs.Answers.{state-answer, module-answer}
+use Rattle.demand.specs.declared.Demand.{Demand}
+use Rattle.demand.specs.declared.Demand.the-variants.{Refused, Given}
+use Rattle.demand.specs.declared.Amount.{Amount}
+use Rattle.layers.specs.Layer.{Told}
+use Rattle.layers.specs.declared.Shape.{Shape}
+use Rattle.modules.proofs.Telling.{rule}
+use Rattle.sums.specs.Sums.{IsTold}
+use Rattle.states.specs.Asking.{Meets, Asks}
+use Rattle.states.specs.declared.Asked.the-variants as asked
+use Rattle.states.specs.States.{Lent}
+
+-- The figure of a call whose terms are met is given.
+met-given : (t : Terms) (bytes : List ℕ) → Meets t bytes → (f : Sheet → ℕ) → answer t f bytes ≡ given (f (sheetIn bytes))
+unfolding answer
+met-given t bytes met f = ap (answerOf t f) (met .accepted) ∙ rw (met .in-range, met .enough)
+
+-- no more modules than rows, and no length past the layers
+pub few-modules : (bytes : List ℕ) → Accepted bytes → length (sheetIn bytes .modules) ≤ maxModules
+few-modules bytes accepted = accepted-wellFormed bytes (sheetIn bytes) accepted .modules-most
+
+short-horizon : (bytes : List ℕ) → Accepted bytes → sheetIn bytes .horizon ≤ maxHorizon
+short-horizon bytes accepted = accepted-wellFormed bytes (sheetIn bytes) accepted .horizon-most
+
+-- a module of an accepted sheet that is told
+pub is-told : (bytes : List ℕ) → Accepted bytes → (k : ℕ) → k < length (sheetIn bytes .modules) → {s : Shape} {numbers : List ℕ} → Told (moduleAt (sheetIn bytes) k) s numbers → IsTold s numbers
+is-told bytes accepted k number told = record { owner = moduleAt (sheetIn bytes) k; rule = rule bytes accepted k number; told = told }
+
+-- The state demand.
+module _ (bytes : List ℕ) (k m d L work : ℕ) where
+  pub record InState : Type 0 where
+    pub number : k < length (sheetIn bytes .modules)
+    pub mode : m < length (moduleAt (sheetIn bytes) k .modes)
+    pub time : d < modeAt (moduleAt (sheetIn bytes) k) m .period
+    pub short : L ≤ maxHorizon
+    pub room : workNumbers ≤ work
+
+  pub in-state : Meets (stateTerms k m d L work) bytes → InState
+  in-state met =
+      let r = simp and-eq-true-iff at (met .in-range) in
+      let l : L ≤ sheetIn bytes .horizon = leb-true L (sheetIn bytes .horizon) (r .1) in
+      record {
+        number = ltb-true _ _ (r .0 .0 .0);
+        mode = ltb-true _ _ (r .0 .0 .1);
+        time = ltb-true _ _ (r .0 .1);
+        short = omega (arith, short-horizon bytes (met .accepted));
+        room = leb-true _ _ (met .enough);
+      }
+
+  pub state-is : {v : ℕ} → Meets (stateTerms k m d L work) bytes → v ≡ value (moduleAt (sheetIn bytes) k) 0 L (at m d) → StateAnswer bytes k m d L work (given v)
+  state-is {v} met e = subst (StateAnswer bytes k m d L work) (met-given (stateTerms k m d L work) bytes met _ ∙ ap given (sym e)) (state-answer bytes k m d L work)
+
+  pub state-is-refused : {n p : ℕ} → Asks (stateTerms k m d L work) bytes (asked.Refused n p) → StateAnswer bytes k m d L work (refused n p)
+  state-is-refused asks = subst (StateAnswer bytes k m d L work) (asks _) (state-answer bytes k m d L work)
+
+-- The module demand.
+module _ (bytes : List ℕ) (k L work : ℕ) where
+  pub record InModule : Type 0 where
+    pub number : k < length (sheetIn bytes .modules)
+    pub short : L ≤ maxHorizon
+    pub room : workNumbers ≤ work
+
+  pub in-module : Meets (moduleTerms k L work) bytes → InModule
+  in-module met =
+      let r = simp and-eq-true-iff at (met .in-range) in
+      let l : L ≤ sheetIn bytes .horizon = leb-true L (sheetIn bytes .horizon) (r .1) in
+      record { number = ltb-true _ _ (r .0); short = omega (arith, short-horizon bytes (met .accepted)); room = leb-true _ _ (met .enough) }
+
+  pub module-is : {v : ℕ} → Meets (moduleTerms k L work) bytes → v ≡ moduleDemand (moduleAt (sheetIn bytes) k) L → ModuleAnswer bytes k L work (given v)
+  module-is {v} met e = subst (ModuleAnswer bytes k L work) (met-given (moduleTerms k L work) bytes met _ ∙ ap given (sym e)) (module-answer bytes k L work)
+
+  pub module-is-refused : {n p : ℕ} → Asks (moduleTerms k L work) bytes (asked.Refused n p) → ModuleAnswer bytes k L work (refused n p)
+  module-is-refused asks = subst (ModuleAnswer bytes k L work) (asks _) (module-answer bytes k L work)
+
+-- The lent memory: untouched, or with another layer in its first part.
+
+pub lent-untouched : (r : Demand) (w : List ℕ) → Lent r w w
+lent-untouched r w = record { len = refl; refused = λ n p e. refl; above = refl }
+
+pub lent-layer : (amount : Amount) (w ys : List ℕ) → workNumbers ≤ length w → length ys ≡ length (midOf 0 (8192 - 0) w) → Lent (Given amount) w (putMid 0 (8192 - 0) w ys)
+lent-layer amount w ys room e =
+    let l : length ys ≡ 8192 = e ∙ mid-len 0 8192 w (omega arith) in
+    record {
+      len = same-len-mid 0 (8192 - 0) w ys e;
+      refused = λ n p q. let z : _≡_ {A = ℕ} 0 1 = cc in absurd (omega arith);
+      above = sym (drop-drop 8192 8192 (putMid 0 (8192 - 0) w ys)) ∙ ap (drop 8192) (drop-put 0 8192 w ys (omega arith) (omega arith) l) ∙ drop-drop 8192 8192 w;
+    }

@@ -1,0 +1,69 @@
+-- What is reached over one module that numbers tell, and what a row of sums holds. Assumes nothing.
+use mathlib.Core.Path.{_≡_}
+use mathlib.Core.List.{List}
+use Prim.Native.Nat.{ℕ, _+_, _*_, _≤_, _<_}
+use lib.ListN.{length, take, drop}
+use Rattle.model.specs.Sheet.{Module}
+use Rattle.model.specs.WellFormed.{ModuleRule}
+use Rattle.model.specs.Demand.{moduleDemand}
+use Rattle.model.specs.Verdict.{Quick}
+use Rattle.layers.specs.declared.Shape.{Shape}
+use Rattle.layers.specs.Step.{look, total}
+use Rattle.layers.specs.Layer.{Layer, Told}
+use Rattle.sums.specs.declared.Over.{Over}
+use Rattle.sums.specs.declared.Over.the-variants.{Clear, At}
+
+-- the numbers tell a module
+pub record IsTold (s : Shape) (numbers : List ℕ) : Type 0 where
+  pub owner : Module
+  pub rule : ModuleRule owner
+  pub told : Told owner s numbers
+
+-- w is the layer of length L of whichever module the numbers tell
+abbrev pub Layered : Shape → List ℕ → ℕ → List ℕ → Type 0
+Layered s numbers L w = (m : Module) → ModuleRule m → Told m s numbers → Layer m L w
+
+-- w′ is that layer, and what lies past the module's states is as it was in w
+pub record Reached (s : Shape) (numbers : List ℕ) (L : ℕ) (w w′ : List ℕ) : Type 0 where
+  pub len : length w′ ≡ length w
+  pub layer : Layered s numbers L w′
+  pub above : (x : ℕ) → total (s .periods) (s .modes) ≤ x → look w′ x ≡ look w x
+
+-- v is the demand in L ticks of whichever module the numbers tell
+abbrev pub Demands : Shape → List ℕ → ℕ → ℕ → Type 0
+Demands s numbers L v = (m : Module) → ModuleRule m → Told m s numbers → v ≡ moduleDemand m L
+
+-- The row of sums: of each length L at L, up to 2,000; behind it the part where a layer is worked out.
+
+abbrev pub layerPart : List ℕ → List ℕ
+layerPart w = take 8192 (drop 2001 w)
+
+-- each sum is at most that of seven modules, whose demands are at most 16 for each of 2,000 ticks
+abbrev pub Fits : ℕ → List ℕ → Type 0
+Fits horizon w = (L : ℕ) → 1 ≤ L → L ≤ horizon → look w L ≤ 7 * 32000
+
+-- to the sum at L + 1 its demand is added, and the layer's part has come to L + 1 ticks; the other sums, and what lies past that part, are as they were
+pub record Added (s : Shape) (numbers : List ℕ) (L : ℕ) (w w′ : List ℕ) : Type 0 where
+  pub len : length w′ ≡ length w
+  pub layer : Layered s numbers (L + 1) (layerPart w′)
+  pub sum : (m : Module) → ModuleRule m → Told m s numbers → look w′ (L + 1) ≡ look w (L + 1) + moduleDemand m (L + 1)
+  pub others : (x : ℕ) → x ≤ 2000 → (x ≡ L + 1 → ⊥) → look w′ x ≡ look w x
+  pub above : (x : ℕ) → 10193 ≤ x → look w′ x ≡ look w x
+
+-- what neither the sums from 1 to n nor the layer's part hold is as it was
+pub record Beside (n : ℕ) (w w′ : List ℕ) : Type 0 where
+  pub len : length w′ ≡ length w
+  pub first : look w′ 0 ≡ look w 0
+  pub later : (x : ℕ) → n < x → x ≤ 2000 → look w′ x ≡ look w x
+  pub above : (x : ℕ) → 10193 ≤ x → look w′ x ≡ look w x
+
+-- to the sums from 1 to n the demands of whichever module the numbers tell are added
+pub record Summed (s : Shape) (numbers : List ℕ) (n : ℕ) (w w′ : List ℕ) : Type 0 where
+  pub sums : (m : Module) → ModuleRule m → Told m s numbers → (L : ℕ) → 1 ≤ L → L ≤ n → look w′ L ≡ look w L + moduleDemand m L
+  pub beside : Beside n w w′
+
+-- The answer.
+
+abbrev pub quickOf : Over → Quick
+quickOf Clear = Quick.clear
+quickOf (At length sum) = Quick.over length sum
