@@ -1,7 +1,7 @@
 -- What a task of an accepted sheet demands fits 32 bits, and the sum over the first i tasks of the mode at a place becomes the mode demand. Assumes nothing.
 use mathlib.Core.Path.{_≡_, refl, sym, _∙_, ap}
 use mathlib.Core.List.{List}
-use Prim.Native.Nat.{ℕ, suc, _+_, _-_, _*_, _/_, _%_, _≤_, _<_}
+use Prim.Native.Nat.{ℕ, _+_, _-_, _*_, _/_, _%_, _≤_, _<_}
 use native.Mathlib.Nat.{mul-le-mul, div-mul-le-self, mod-eq-of-lt}
 use native.Mathlib.Numerals.{add-one}
 use native.Mathlib.Decide.{decLe}
@@ -10,7 +10,7 @@ use lib.ListN.{length, getD, take}
 use lib.Seq.{take-length}
 use Rattle.model.specs.Lists.{sumOf}
 use Rattle.model.specs.Limits.{maxModePeriod, maxModeTasks}
-use Rattle.model.specs.Sheet.{Task, Mode, Module, Sheet, moduleAt}
+use Rattle.model.specs.Sheet.{Task, Mode, Sheet, moduleAt}
 use Rattle.model.specs.WellFormed.{TaskRule, ModeRule, ModuleRule}
 use Rattle.model.specs.Run.{modeAt}
 use Rattle.model.specs.Demand.{instances, modeDemand}

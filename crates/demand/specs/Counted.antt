@@ -22,7 +22,7 @@ pub record Countable (k : Task) : Type 0 where
   pub within : k .offset + k .LET ≤ k .period
   pub short : k .period ≤ maxModePeriod
 
--- r is what the task demands from a to b: no more than the ticks to b and one period
+-- r is what the task demands from a to b: no more than two periods of a mode
 pub record Counted (k : Task) (a b r : ℕ) : Type 0 where
   pub amount : r ≡ instances k a b * k .cost
   pub bound : r ≤ 2 * maxModePeriod

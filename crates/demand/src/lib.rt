@@ -13,7 +13,7 @@ ghost use Rattle.demand.specs.Demanded.{answerOf};
 ghost use Rattle.demand.specs.Counted.{taskOf, Times, Countable, Counted};
 use judge::Judged;
 
-// What is asked for, or the refusal's number and place.
+// The demand that is asked for, or the refusal's number and place.
 pub enum Demand {
     Refused { number: u8, place: usize },
     Given(Amount),

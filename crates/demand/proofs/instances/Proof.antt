@@ -1,6 +1,6 @@
 -- Of the instances due by b, those that are not released before a. Assumes nothing.
-use Rattle.model.specs.Demand.{instances}
 use borrow.Author.Needs.{needs}
+use Rattle.model.specs.Demand.{instances}
 use Rattle.demand.proofs.instances.Statement.{statement}
 use Rattle.demand.proofs.instances.Tie as tie
 

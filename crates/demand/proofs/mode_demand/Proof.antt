@@ -1,12 +1,9 @@
 -- The judgement is answered first, and of an accepted sheet its modules go on to the answer. Assumes nothing.
-use mathlib.Core.Path.{_≡_, sym, _∙_, ap}
 use mathlib.Core.List.{List}
 use Prim.Native.Nat.{ℕ}
-use denote.Ref.{now}
-use Rattle.judge.specs.Told.{told}
-use Rattle.judge.proofs.JudgedLaws.{AcceptedWith, accepted-told, refused-told}
-use Rattle.demand.proofs.Answers.{answer-refused}
 use borrow.Author.Needs.{needs}
+use Rattle.judge.proofs.JudgedLaws.{accepted-told, refused-told}
+use Rattle.demand.proofs.Answers.{answer-refused}
 use Rattle.demand.proofs.mode_demand.Statement.{statement}
 use Rattle.demand.proofs.mode_demand.Tie as tie
 
@@ -24,7 +21,8 @@ cast-sheet-answer c = search needs
 
 sheet-answer-requires : tie.Need-sheet-answer-requires
 sheet-answer-requires c κs =
-    let h = accepted-told (now (c .before .before .before .before .before .args .sheet)) (c .before .judged2 .given .1) (c .before .before .before .judge .ensures) in
+    let bs : List ℕ = c .before .before .before .before .before .args .sheet .now in
+    let h = accepted-told bs (c .before .judged2 .given .1) (c .before .before .before .judge .ensures) in
     (h .is-accepted, h .modules-are)
 
 returns : tie.Need-returns

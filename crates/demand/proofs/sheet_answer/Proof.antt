@@ -5,11 +5,11 @@ use Prim.Native.Nat.{ℕ}
 use native.Mathlib.Omega.{arith}
 use denote.Ref.{now}
 use lib.ListN.{length}
+use borrow.Author.Needs.{needs}
 use Rattle.model.specs.Sheet.{moduleAt}
 use Rattle.format.specs.Judgement.{sheetIn}
 use Rattle.place.specs.There.{ModuleThere, ModesThere, ModeThere}
 use Rattle.demand.proofs.Answers.{no-module, no-mode}
-use borrow.Author.Needs.{needs}
 use Rattle.demand.proofs.sheet_answer.Statement.{statement}
 use Rattle.demand.proofs.sheet_answer.Tie as tie
 
@@ -21,12 +21,13 @@ module-there c = record { number = omega arith; place = c .module-place .ensures
 modes-are : (c : tie.After-modes-at) → c .modes-at .result ≡ length (moduleAt (sheetIn (now (c .before .before .before .before .args .sheet))) (c .before .before .before .before .args .«module») .modes)
 modes-are c = c .modes-at .ensures _ (module-there (c .before))
 
--- .. of which one is asked for.
+-- .. of which one is asked for ..
 modes-there : (c : tie.Else2) → ModesThere (sheetIn (now (c .before .before .before .before .before .args .sheet))) (c .before .before .before .before .before .args .«module») (c .before .before .module-place .result) (c .before .before .before .before .before .args .mode)
 modes-there c =
     let h = module-there (c .before .before) in
     record { number = h .number; place = h .place; most = omega (arith, modes-are (c .before)) }
 
+-- .. and stands at its own.
 mode-there : (c : tie.After-mode-from) → ModeThere (sheetIn (now (c .before .before .before .before .before .before .args .sheet))) (c .before .before .before .before .before .before .args .«module») (c .before .before .before .before .before .before .args .mode) (c .mode-from .result)
 mode-there c =
     let h = modes-there (c .before) in

@@ -1,6 +1,6 @@
 -- The sum over the tasks of the mode, of which there are at most 16. Assumes nothing.
 use mathlib.Core.List.{List}
-use Prim.Native.Nat.{ℕ, _+_, _-_, _*_}
+use Prim.Native.Nat.{ℕ, _-_}
 use native.Mathlib.Omega.{arith}
 use borrow.Author.Needs.{needs}
 use Rattle.place.proofs.Counting.{are-bytes}
@@ -8,11 +8,6 @@ use Rattle.demand.specs.Counted.{taskOf}
 use Rattle.demand.proofs.Tasks.{Summed, task-within, task-countable, summed-none, sum-fits, summed-more, summed-all}
 use Rattle.demand.proofs.tasks_demand.Statement.{statement}
 use Rattle.demand.proofs.tasks_demand.Tie as tie
-use Rattle.demand.proofs.tasks_demand.Reads as reads
-use Rattle.demand.proofs.tasks_demand.Lts as lts
-use Rattle.demand.proofs.task_at.Reads as task-at-reads
-use Rattle.demand.proofs.task_demand.Reads as task-demand-reads
-use Rattle.place.proofs.tasks_at.Reads as tasks-at-reads
 
 abbrev Inv-loop : tie.InvT-loop
 Inv-loop sheet p a b n demand₀ i₀ demand i = Summed sheet p n a b demand i
