@@ -1,15 +1,13 @@
 -- Of what is left of a word of marks, the ticks below its lowest set digit are not marked, and where that is the first one, it is marked. Assumes nothing.
-use mathlib.Core.Path.{_≡_, refl, sym, ap, _∙_}
-use mathlib.Core.Bool.{true, false}
+use mathlib.Core.Path.{_≡_, refl}
 use mathlib.Core.List.{List}
-use Prim.Native.Nat.{ℕ, zero, suc, _+_, _-_, _*_, _/_, _%_, _^_, _≤_, _<_, min}
-use native.Mathlib.Nat.{pow-zero, pow-succ', div-one, div-div-eq-div-mul, mod-lt}
+use Prim.Native.Nat.{ℕ, zero, suc, _+_, _-_, _*_, _/_, _%_, _^_, _<_, min}
+use native.Mathlib.Nat.{pow-zero, pow-succ', div-one, div-div-eq-div-mul}
 use native.Mathlib.Omega.{arith}
 use lib.ListN.{getD}
 use lib.Count.{under, trailingZeros}
 use lib.Pow.{shr-shr}
 use borrow.Author.Tests.{eq-eqb, ne-eqb}
-use Rattle.marks.specs.Marks.{marked}
 use Rattle.figures.specs.Offers.{Quiet}
 
 low-digits : (k n x : ℕ) → x < trailingZeros k n → n / 2 ^ x % 2 ≡ 0

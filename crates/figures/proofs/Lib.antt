@@ -1,5 +1,5 @@
 pub mod Bits
 pub mod Raises
 pub mod Offered
-pub mod Sums
+pub mod Cells
 pub mod Tiles

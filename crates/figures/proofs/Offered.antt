@@ -1,9 +1,10 @@
 -- What the walks offer: over the ticks that are marked, over the mode times at which a task is released, over tasks, and over modes. Assumes nothing.
-use mathlib.Core.Path.{_≡_, refl, sym, ap, _∙_, subst}
-use mathlib.Core.Bool.{true, false}
+use mathlib.Core.Path.{_≡_, sym, _∙_, subst}
+use mathlib.Core.Bool.{Bool, true, false}
 use mathlib.Core.List.{List}
-use Prim.Native.Nat.{ℕ, _+_, _-_, _*_, _/_, _%_, _≤_, _<_, max}
+use Prim.Native.Nat.{ℕ, _+_, _-_, _*_, _%_, _≤_, _<_, max}
 use native.Mathlib.Nat.{mod-eq-of-lt}
+use native.Mathlib.Decide.{decLt}
 use native.Mathlib.Omega.{arith}
 use lib.ListN.{length, set, take, drop}
 use Rattle.layers.specs.declared.Shape.{Shape}
@@ -12,6 +13,9 @@ use Rattle.layers.proofs.Walks.{skips}
 use Rattle.marks.specs.Marks.{marked}
 use Rattle.figures.specs.Offers.{Raised, Below, TickOffer, TimeOffer, TaskOffer, ModeOffer, ShapeOffer, partOf, Quiet}
 use Rattle.figures.proofs.Raises.{raised-none, raised-as, raised-one, below-start, below-more, below-skip, below-all}
+
+pub not-both : {b : Bool} → b ≡ true → b ≡ false → ⊥
+not-both p q = let z : _≡_ {A = ℕ} 0 1 = cc in omega arith
 
 -- The ticks at which mode k is marked.
 
@@ -23,13 +27,10 @@ module _ (bits : List ℕ) (k lo far n : ℕ) (w : List ℕ) where
   pub ticks-start : (e : ℕ) → e ≡ lo - far → Raised (Below Tick e) w w
   ticks-start e q = below-start Tick w e (λ x i v h l p. omega (arith, p .ends))
 
-  pub ticks-more : (e r x : ℕ) (w′ : List ℕ) → lo ≤ e + far → e + far < lo + length w → Quiet bits k e r → r ≡ 0 → x ≡ max (look w′ (e + far - lo)) n
-      → Raised (Below Tick e) w w′ → Raised (Below Tick (e + 1)) w (set w′ (e + far - lo) x)
-  ticks-more e r x w′ low high quiet z q done = below-more Tick w e 1 w′ (set w′ at x) (omega arith) (λ y i v h j. absurd (omega arith)) done one
+  pub ticks-more : (e r at x : ℕ) (w′ : List ℕ) → e + far < lo + length w → Quiet bits k e r → r ≡ 0 → lo + at ≡ e + far → x ≡ max (look w′ at) n
+      → Raised (Below Tick e) w w′ → Raised (Below Tick (e + 1)) w (set w′ at x)
+  ticks-more e r at x w′ high quiet z here q done = below-more Tick w e 1 w′ (set w′ at x) (omega arith) (λ y i v h j. absurd (omega arith)) done one
     where
-      at : ℕ
-      at = e + far - lo
-
       one : Raised (Tick e) w′ (set w′ at x)
       one = raised-as _ _ _ _
           (λ i v h p. record { marked = quiet .some z; ends = omega (arith, p .0); value = p .1 })
@@ -40,11 +41,7 @@ module _ (bits : List ℕ) (k lo far n : ℕ) (w : List ℕ) where
   ticks-skip e r w′ quiet = below-skip Tick w e r w′ (λ x i v low high h p. no x low high (p .marked))
     where
       no : (x : ℕ) → e ≤ x → x < e + r → marked bits k x ≡ true → ⊥
-      no x low high y =
-          let same : e + (x - e) ≡ x = omega arith in
-          let z : true ≡ false = sym y ∙ rw same at (quiet .none (x - e) (omega arith)) in
-          let n : _≡_ {A = ℕ} 0 1 = cc in
-          omega arith
+      no x low high y = not-both y (let same : e + (x - e) ≡ x = omega arith in rw same at (quiet .none (x - e) (omega arith)))
 
   -- what a tick from lo + length w - far on is offered to lies past the tile
   pub ticks-end : (e end : ℕ) (w′ : List ℕ) → end ≡ lo + length w - far → end ≤ e → Raised (Below Tick e) w w′ → Raised (λ i v. (x : ℕ) × Tick x i v) w w′
@@ -99,3 +96,15 @@ mode-offers s numbers layer bits lo l k from w w′ e r =
     let size : from + period s k - from ≡ period s k = omega arith in
     let part : take (from + period s k - from) (drop from layer) ≡ partOf s layer k = rw (size, e) in
     subst (λ (p : List ℕ). Raised (ModeOffer p (tasksOf s numbers k) bits k lo l) w w′) part r
+
+pub mode-unbegun : (s : Shape) (numbers layer bits : List ℕ) (lo l k : ℕ) (w : List ℕ) → lo + length w ≤ 2001 → ((t : ℕ) → t < 2016 → marked bits k t ≡ false)
+    → Raised (ShapeOffer s numbers layer bits lo l k) w w
+mode-unbegun s numbers layer bits lo l k w top none = raised-none _ w (λ i v h p. let o = p .2 .offer .offer in not-both (o .marked) (none (p .2 .offer .tick) (omega (arith, o .ends))))
+
+-- no tick below t is marked
+pub none-more : (bits : List ℕ) (k t r : ℕ) → Quiet bits k t r → ((x : ℕ) → x < t → marked bits k x ≡ false) → (x : ℕ) → x < t + r → marked bits k x ≡ false
+none-more bits k t r quiet before x h = pick (decLt x t)
+  where
+    pick : Dec (x < t) → marked bits k x ≡ false
+    pick (yes a) = before x a
+    pick (no a) = let same : t + (x - t) ≡ x = omega arith in rw same at (quiet .none (x - t) (omega arith))

@@ -1,19 +1,18 @@
 -- The figures for no tick are 0; those for l - 1 ticks, with all offers of the layer for l ticks, are those for l; and none is above 32,000. Assumes nothing.
-use mathlib.Core.Path.{_≡_, refl, sym, ap, _∙_, subst}
-use mathlib.Core.Logic.{_⊎_, inl, inr, ⊎-elim}
-use mathlib.Core.Bool.{true, false}
+use mathlib.Core.Path.{_≡_, refl, sym, _∙_}
+use mathlib.Core.Logic.{⊎-elim}
 use mathlib.Core.List.{List, [], _∷_, List·Memᴰ, List·Memᴰ·head, List·Memᴰ·tail}
-use Prim.Native.Nat.{ℕ, zero, suc, _+_, _-_, _*_, _/_, _%_, _≤_, _<_}
-use native.Mathlib.Nat.{le-antisymm, le-trans, sub-zero}
-use native.Mathlib.Decide.{decLt, decLe}
+use Prim.Native.Nat.{ℕ, suc, _+_, _-_, _*_, _/_, _≤_, _<_}
+use native.Mathlib.Nat.{le-antisymm, sub-zero}
+use native.Mathlib.Decide.{decLe}
 use native.Mathlib.Omega.{arith}
 use lib.ListN.{length, drop, length-take, length-drop}
 use lib.Seq.{getD-take, getD-drop}
-use borrow.Author.Tests.{eqb-true, eq-eqb}
+use borrow.Author.Tests.{eqb-true}
 use Rattle.model.specs.Sheet.{Task, Module}
 use Rattle.model.specs.WellFormed.{ModuleRule}
 use Rattle.model.specs.Flat.{taskNumbers}
-use Rattle.model.specs.Run.{State, at, first, modeAt, Inside}
+use Rattle.model.specs.Run.{State, at, first, modeAt}
 use Rattle.model.specs.Demand.{value}
 use Rattle.model.proofs.Bounds.{value-bound}
 use Rattle.model.proofs.Runs.{period-positive}
@@ -23,12 +22,12 @@ use Rattle.layers.specs.Layer.{Layer, Told}
 use Rattle.layers.proofs.Layers.{told-room, value-told}
 use Rattle.layers.proofs.Sums.{sum-before}
 use Rattle.layers.proofs.Nexts.{behind, behind-first}
-use Rattle.entries.specs.Entry.{Reach, Entry, Releasing}
+use Rattle.entries.specs.Entry.{Reach, Releasing}
 use Rattle.entries.proofs.Reaches.{reach-listed, entry-reach, reach-entry}
 use Rattle.entries.proofs.Figures.{figure-largest, figure-end, figure-later, figure-step}
-use Rattle.marks.specs.Marks.{Marks, marked}
+use Rattle.marks.specs.Marks.{Marks}
 use Rattle.figures.specs.Figures.{Figures}
-use Rattle.figures.specs.Offers.{Raised, Below, TickOffer, TimeOffer, TaskOffer, ModeOffer, ShapeOffer, partOf}
+use Rattle.figures.specs.Offers.{Raised, Below, ShapeOffer, partOf}
 
 -- the task is one of those that the numbers tell
 abbrev TaskAt : List ℕ → Task → Type 0

@@ -1,10 +1,11 @@
 // The figures of a module: for each end of a tile the largest demand in so many ticks before it over runs from tick 0, one length after the other.
 ghost use mathlib.Core.Path.{_≡_};
+ghost use mathlib.Core.Bool.{false};
 ghost use Prim.Native.Nat.{ℕ, _+_, _-_, _*_, _/_, _^_, _<_, _≤_, min};
 ghost use lib.ListN.{length};
 ghost use Rattle.layers.specs.Step.{look, total, period, TasksReady, ModeReady};
 ghost use Rattle.layers.specs.Layer.{IsLayer};
-ghost use Rattle.marks.specs.Marks.{markNumbers};
+ghost use Rattle.marks.specs.Marks.{markNumbers, marked};
 ghost use Rattle.figures.specs.Figures.{Grown, Added};
 ghost use Rattle.figures.specs.Offers.{Raised, TickOffer, TimeOffer, TaskOffer, ModeOffer, ShapeOffer, Quiet, Room};
 use layers::Shape;
@@ -32,6 +33,30 @@ fn quiet(bits: &[u32], k: usize, t: usize) -> usize
     smaller(u32::trailing_zeros(rest) as usize, 32 - t % 32)
 }
 
+// Whether mode k is begun at all.
+fn is_begun(bits: &[u32], k: usize) -> bool
+    requires { ⌜ (k < 8) × (markNumbers ≤ length (now bits)) ⌝ }
+    ensures { λ r. ⌜ (r ≡ false → (t : ℕ) → t < 2016 → marked (now (bits .entry)) k t ≡ false) ⌝ }
+{
+    let mut t = 0;
+    while t < 2016 {
+        let skip = quiet(bits, k, t);
+        if skip == 0 {
+            return true;
+        }
+        t += skip;
+    }
+    false
+}
+
+// Where in the tile from lo on the end stands that is so many ticks after tick e.
+fn spot(lo: usize, e: usize, far: usize) -> usize
+    requires { ⌜ (lo ≤ e + far) × (e + far < 2001) ⌝ }
+    ensures { λ r. ⌜ lo + r ≡ e + far ⌝ }
+{
+    e + far - lo
+}
+
 // Each end that is so many ticks after a mark of mode k is raised to v.
 fn offer(fig: &mut [u32], bits: &[u32], k: usize, lo: usize, far: usize, v: u32)
     requires { ⌜ Room k lo (now bits) (now fig) ⌝ }
@@ -42,7 +67,7 @@ fn offer(fig: &mut [u32], bits: &[u32], k: usize, lo: usize, far: usize, v: u32)
     while e < end {
         let skip = quiet(bits, k, e);
         if skip == 0 {
-            let i = e + far - lo;
+            let i = spot(lo, e, far);
             fig[i] = larger(fig[i], v);
             e += 1;
         } else {
@@ -115,7 +140,7 @@ fn offer_tasks(
     }
 }
 
-// Mode k of the shape, whose part of the layer begins at from. Where that ends is handed back.
+// Mode k of the shape, whose part of the layer begins at from. Where that ends is handed back. A mode that is never begun costs no walk.
 fn offer_mode(
     fig: &mut [u32],
     lo: usize,
@@ -133,7 +158,9 @@ fn offer_mode(
     let to = from + shape.periods[k] as usize;
     let a = shape.starts[k] as usize;
     let e = shape.starts[k + 1] as usize;
-    offer_tasks(fig, &layer[from..to], &numbers[a..e], bits, k, lo, l);
+    if is_begun(bits, k) {
+        offer_tasks(fig, &layer[from..to], &numbers[a..e], bits, k, lo, l);
+    }
     to
 }
 

@@ -21,7 +21,7 @@ use Rattle.following.proofs.Lowest.{lowest-passes, lowest-least}
 -- The chosen state is a next state that has the largest value; of those it is the one of the lowest mode.
 
 module _ (m : Module) (ok : ModuleRule m) (s : State) (in-mode : Listed m s) (f : State → ℕ) where
-  chosen-next : Next m s (chosen f s (nexts m s))
+  pub chosen-next : Next m s (chosen f s (nexts m s))
   chosen-next =
       let t = some-next m s (in-mode .time) in
       nexts-sound m s _ (chosen-in f s (t .0) (nexts m s) (nexts-complete m s (t .0) (t .1)))

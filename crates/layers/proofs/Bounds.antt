@@ -42,7 +42,7 @@ gains-le s t b p low high [] h = omega arith
 gains-le s t b p low high (k ∷ ks) h = omega (arith, gainOf-le s t b p low high k (h .0), gains-le s t b p low high ks (h .1))
 
 module _ (m : Module) (ok : ModuleRule m) where
-  gain-le : (s : State) (t b : ℕ) → gain m s t b ≤ 16384
+  pub gain-le : (s : State) (t b : ℕ) → gain m s t b ≤ 16384
   unfolding gain
   gain-le s t b = pick (decLt (s .mode) (length (m .modes)))
     where

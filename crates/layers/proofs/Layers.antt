@@ -10,16 +10,16 @@ use lib.ListN.{length}
 use Rattle.model.specs.Lists.{maxBelow}
 use Rattle.model.specs.Sheet.{Switch, Module}
 use Rattle.model.specs.WellFormed.{SwitchRule, ModeRule, ModuleRule}
-use Rattle.model.specs.Run.{at, modeAt}
+use Rattle.model.specs.Run.{State, at, modeAt, Listed}
 use Rattle.model.specs.Demand.{value, moduleDemand}
 use Rattle.model.proofs.Lists.{all-mem}
-use Rattle.model.proofs.Runs.{mode-rule}
+use Rattle.model.proofs.Runs.{mode-rule, best-next, next-listed}
 use Rattle.layers.specs.declared.Shape.{Shape}
 use Rattle.layers.specs.Step.{sumBelow, look, total, period, tasksOf, next, offered, stepAt, Stepped, Cleared, ModeReady, Ready}
-use Rattle.layers.specs.Layer.{place, statesOf, Layer, ModeTold, Told}
+use Rattle.layers.specs.Layer.{place, statesOf, Holds, Layer, earlier, ModeTold, Told, Steppable, SteppedBy}
 use Rattle.layers.proofs.Sums.{sum-before}
 use Rattle.layers.proofs.Parts.{next-inside}
-use Rattle.layers.proofs.Bounds.{value-bound}
+use Rattle.layers.proofs.Bounds.{gain-le, value-bound}
 use Rattle.layers.proofs.Nexts.{nexts-split, offered-is, gained-is, tasks-ready}
 
 -- Places.
@@ -42,10 +42,14 @@ unfolding place
 place-inside m k d h i = omega (arith, sum-before (λ j. modeAt m j .period) k (length (m .modes)) h)
 
 -- what a layer holds, at the place that the numbers give
+pub held-told : (m : Module) (s : Shape) (numbers : List ℕ) → Told m s numbers → (f : State → ℕ) (w : List ℕ) → Holds m f w
+    → (k d : ℕ) → k < s .modes → d < period s k → look w (total (s .periods) k + d) ≡ f (at k d)
+held-told m s numbers told f w layer k d h i =
+    ap (look w) (sym (place-told m s numbers told k (omega arith) d)) ∙ layer .holds k d (omega (arith, told .modes)) (omega (arith, told .each k h .period))
+
 pub value-told : (m : Module) (s : Shape) (numbers : List ℕ) → Told m s numbers → (L : ℕ) (w : List ℕ) → Layer m L w
     → (k d : ℕ) → k < s .modes → d < period s k → look w (total (s .periods) k + d) ≡ value m 0 L (at k d)
-value-told m s numbers told L w layer k d h i =
-    ap (look w) (sym (place-told m s numbers told k (omega arith) d)) ∙ layer .holds k d (omega (arith, told .modes)) (omega (arith, told .each k h .period))
+value-told m s numbers told L w = held-told m s numbers told (value m 0 L) w
 
 -- One step.
 
@@ -69,42 +73,77 @@ module _ (m : Module) (ok : ModuleRule m) (s : Shape) (numbers : List ℕ) (told
         tasks = rw (t .tasks) (tasks-ready (modeAt m k .period) (modeAt m k .tasks) (told-rule k h .tasks));
       }
 
-  module _ (L : ℕ) (w : List ℕ) (layer : Layer m L w) where
+  module _ (f : State → ℕ) (w : List ℕ) (layer : Holds m f w) where
     pub told-room : total (s .periods) (s .modes) ≤ length w
     told-room = omega (arith, states-told m s numbers told, layer .room)
 
     module _ (heads : List ℕ) (are : (k : ℕ) → k < s .modes → look heads k ≡ look w (total (s .periods) k)) where
-      heads-are : (k : ℕ) → k < s .modes → look heads k ≡ value m 0 L (at k 0)
+      heads-are : (k : ℕ) → k < s .modes → look heads k ≡ f (at k 0)
       heads-are k h =
           let zero′ : total (s .periods) k ≡ total (s .periods) k + 0 = omega arith in
-          are k h ∙ ap (look w) zero′ ∙ value-told m s numbers told L w layer k 0 h (told-ready .each k h .positive)
+          are k h ∙ ap (look w) zero′ ∙ held-told m s numbers told f w layer k 0 h (told-ready .each k h .positive)
 
-      -- the step gives the largest demand one tick longer
-      step-value : (k d : ℕ) → k < s .modes → d < period s k → stepAt s numbers heads (L + 1) w k d ≡ value m 0 (L + 1) (at k d)
-      unfolding value
-      step-value k d h i =
+      -- the step gives the numbers of one tick earlier
+      step-earlier : (l k d : ℕ) → k < s .modes → d < period s k → stepAt s numbers heads l w k d ≡ earlier m l f (at k d)
+      step-earlier l k d h i =
           let p : period s k ≡ modeAt m k .period = told .each k h .period in
           let v : ℕ = look w (total (s .periods) k + next (period s k) d) in
-          let stays : v ≡ value m 0 L (at k (next (modeAt m k .period) d)) = value-told m s numbers told L w layer k (next (period s k) d) h (next-inside (period s k) d i) ∙ ap (λ (x : ℕ). value m 0 L (at k (next x d))) p in
-          let offers = offered-is m s numbers heads (value m 0 L) k (told .each k h) (λ x j. subst (λ (n : ℕ). x .target < n) (sym (told .modes)) (switch-rule k h x j .there)) heads-are d v in
-          let gains = gained-is m (tasksOf s numbers k) k (told .each k h .tasks) (L + 1) d (offered s k heads (s .modes) d v) in
-          let split = nexts-split m (value m 0 L) k d (omega arith) in
-          rw (add-one L) (omega (arith, rw (add-one L) at gains, offers, stays, split))
+          let stays : v ≡ f (at k (next (modeAt m k .period) d)) = held-told m s numbers told f w layer k (next (period s k) d) h (next-inside (period s k) d i) ∙ ap (λ (x : ℕ). f (at k (next x d))) p in
+          let offers = offered-is m s numbers heads f k (told .each k h) (λ x j. subst (λ (n : ℕ). x .target < n) (sym (told .modes)) (switch-rule k h x j .there)) heads-are d v in
+          let gains = gained-is m (tasksOf s numbers k) k (told .each k h .tasks) l d (offered s k heads (s .modes) d v) in
+          let split = nexts-split m f k d (omega arith) in
+          omega (arith, gains, offers, stays, split)
 
-      -- no number is too large
-      pub step-fits : L < 2000 → (k d : ℕ) → k < s .modes → d < period s k → stepAt s numbers heads (L + 1) w k d < 2 ^ 32
-      step-fits l k d h i = omega (arith, step-value k d h i, value-bound m ok (L + 1) (at k d))
-
-      pub layer-step : (w′ : List ℕ) → Stepped s numbers heads (L + 1) (s .modes) w w′ → Layer m (L + 1) w′
-      layer-step w′ new = record {
+      pub holds-step : (l : ℕ) (w′ : List ℕ) → Stepped s numbers heads l (s .modes) w w′ → Holds m (earlier m l f) w′
+      holds-step l w′ new = record {
         room = omega (arith, new .len, layer .room);
         holds = λ k d h i. held k d (omega (arith, told .modes)) i;
       }
         where
-          held : (k d : ℕ) → k < s .modes → d < modeAt m k .period → look w′ (place m k d) ≡ value m 0 (L + 1) (at k d)
+          held : (k d : ℕ) → k < s .modes → d < modeAt m k .period → look w′ (place m k d) ≡ earlier m l f (at k d)
           held k d h i =
               let j : d < period s k = omega (arith, told .each k h .period) in
-              ap (look w′) (place-told m s numbers told k (omega arith) d) ∙ new .each k d h j ∙ step-value k d h j
+              ap (look w′) (place-told m s numbers told k (omega arith) d) ∙ new .each k d h j ∙ step-earlier l k d h j
+
+  -- No number is too large.
+
+  -- what w holds of a state
+  found : List ℕ → State → ℕ
+  found w x = look w (place m (x .mode) (x .time))
+
+  found-holds : (w : List ℕ) → total (s .periods) (s .modes) ≤ length w → Holds m (found w) w
+  unfolding found
+  found-holds w room = record { room = omega (arith, states-told m s numbers told); holds = λ k d h i. refl }
+
+  module _ (w : List ℕ) (room : total (s .periods) (s .modes) ≤ length w)
+      (low : (k d : ℕ) → k < s .modes → d < period s k → look w (total (s .periods) k + d) + 16384 < 2 ^ 32) where
+    found-low : (x : State) → Listed m x → found w x + 16384 < 2 ^ 32
+    unfolding found
+    found-low x h =
+        let l : x .mode < s .modes = omega (arith, told .modes, h .mode) in
+        rw (place-told m s numbers told (x .mode) (omega arith) (x .time)) (low (x .mode) (x .time) l (omega (arith, told .each (x .mode) l .period, h .time)))
+
+    found-fits : (heads : List ℕ) → ((k : ℕ) → k < s .modes → look heads k ≡ look w (total (s .periods) k))
+        → (l k d : ℕ) → k < s .modes → d < period s k → stepAt s numbers heads l w k d < 2 ^ 32
+    found-fits heads are l k d h i =
+        let inside : d < modeAt m k .period = omega (arith, told .each k h .period) in
+        let best = best-next m (found w) (at k d) inside in
+        let listed : Listed m (best .0) = next-listed m ok (at k d) (best .0) (record { mode = omega (arith, told .modes); time = inside }) (best .1) in
+        omega (arith, step-earlier (found w) w (found-holds w room) heads are l k d h i, gain-le m ok (at k d) 0 l, best .2, found-low (best .0) listed)
+
+  -- The largest demand in L ticks.
+
+  module _ (L : ℕ) (w : List ℕ) (layer : Layer m L w) where
+    pub layer-low : L < 2000 → (k d : ℕ) → k < s .modes → d < period s k → look w (total (s .periods) k + d) + 16384 < 2 ^ 32
+    layer-low l k d h i = omega (arith, value-told m s numbers told L w layer k d h i, value-bound m ok L (at k d))
+
+    pub layer-step : (w′ : List ℕ) → SteppedBy s numbers (L + 1) w w′ → Layer m (L + 1) w′
+    unfolding value
+    layer-step w′ new = rw (add-one L) (rw (add-one L) at (new .holds m ok told (value m 0 L) layer))
+
+pub step-fits : (s : Shape) (numbers w : List ℕ) → Steppable s numbers w → (heads : List ℕ) → ((k : ℕ) → k < s .modes → look heads k ≡ look w (total (s .periods) k))
+    → (l k d : ℕ) → k < s .modes → d < period s k → stepAt s numbers heads l w k d < 2 ^ 32
+step-fits s numbers w can = found-fits (can .owner) (can .rule) s numbers (can .told) w (can .room) (can .low)
 
 -- The first layer.
 

@@ -2,13 +2,14 @@
 use mathlib.Core.Path.{_≡_}
 use mathlib.Core.Bool.{true}
 use mathlib.Core.List.{List, List·Memᴰ}
-use Prim.Native.Nat.{ℕ, _+_, _≤_, _<_}
+use Prim.Native.Nat.{ℕ, _+_, _^_, _≤_, _<_}
 use lib.ListN.{length}
+use Rattle.model.specs.Lists.{maxOf}
 use Rattle.model.specs.Sheet.{Switch, Module}
 use Rattle.model.specs.WellFormed.{ModuleRule}
 use Rattle.model.specs.Flat.{taskNumbers}
-use Rattle.model.specs.Run.{at, modeAt}
-use Rattle.model.specs.Demand.{value}
+use Rattle.model.specs.Run.{State, at, modeAt, gain}
+use Rattle.model.specs.Demand.{nexts, value}
 use Rattle.layers.specs.declared.Shape.{Shape}
 use Rattle.layers.specs.Step.{sumBelow, look, total, period, lists, every, tasksOf}
 
@@ -20,10 +21,18 @@ place m k d = sumBelow (λ j. modeAt m j .period) k + d
 abbrev pub statesOf : Module → ℕ
 statesOf m = place m (length (m .modes)) 0
 
--- w holds the largest demand in L ticks from each state, at its place
-pub record Layer (m : Module) (L : ℕ) (w : List ℕ) : Type 0 where
+-- w holds f of each state, at its place
+pub record Holds (m : Module) (f : State → ℕ) (w : List ℕ) : Type 0 where
   pub room : statesOf m ≤ length w
-  pub holds : (k d : ℕ) → k < length (m .modes) → d < modeAt m k .period → look w (place m k d) ≡ value m 0 L (at k d)
+  pub holds : (k d : ℕ) → k < length (m .modes) → d < modeAt m k .period → look w (place m k d) ≡ f (at k d)
+
+-- w holds the largest demand in L ticks from each state
+abbrev pub Layer : Module → ℕ → List ℕ → Type 0
+Layer m L w = Holds m (value m 0 L) w
+
+-- one tick earlier, for f a tick later: what the state gains of instances due within l ticks, and the largest of the next states
+abbrev pub earlier : Module → ℕ → (State → ℕ) → State → ℕ
+earlier m l f s = gain m s 0 l + maxOf f (nexts m s)
 
 -- the numbers tell the mode k: its period, its tasks, and for each mode of the module whether it is a target of a switch, and of which period
 pub record ModeTold (m : Module) (s : Shape) (numbers : List ℕ) (k : ℕ) : Type 0 where
@@ -50,4 +59,18 @@ pub record IsLayer (s : Shape) (numbers : List ℕ) (L : ℕ) (w : List ℕ) : T
 pub record Advanced (s : Shape) (numbers : List ℕ) (L : ℕ) (w w′ : List ℕ) : Type 0 where
   pub len : length w′ ≡ length w
   pub layer : (m : Module) → ModuleRule m → Told m s numbers → Layer m L w → Layer m (L + 1) w′
+  pub above : (x : ℕ) → total (s .periods) (s .modes) ≤ x → look w′ x ≡ look w x
+
+-- the numbers tell a module, whose states w has room for, and no number there is so large that a step could pass 32 bits
+pub record Steppable (s : Shape) (numbers w : List ℕ) : Type 0 where
+  pub owner : Module
+  pub rule : ModuleRule owner
+  pub told : Told owner s numbers
+  pub room : total (s .periods) (s .modes) ≤ length w
+  pub low : (k d : ℕ) → k < s .modes → d < period s k → look w (total (s .periods) k + d) + 16384 < 2 ^ 32
+
+-- of whichever module the numbers tell, and whichever numbers w holds of its states, w′ holds those of one tick earlier
+pub record SteppedBy (s : Shape) (numbers : List ℕ) (l : ℕ) (w w′ : List ℕ) : Type 0 where
+  pub len : length w′ ≡ length w
+  pub holds : (m : Module) → ModuleRule m → Told m s numbers → (f : State → ℕ) → Holds m f w → Holds m (earlier m l f) w′
   pub above : (x : ℕ) → total (s .periods) (s .modes) ≤ x → look w′ x ≡ look w x

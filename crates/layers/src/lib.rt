@@ -5,7 +5,7 @@ ghost use Prim.Native.Nat.{ℕ, _+_, _*_, _/_, _%_, _^_, _<_, _≤_, max};
 ghost use lib.ListN.{length};
 ghost use Rattle.model.specs.Lists.{maxBelow};
 ghost use Rattle.layers.specs.Step.{look, total, period, lists, every, Moved, raised, added, next, Shifted, offerOf, due, offered, gained, stepped, Renewed, stepAt, Replaced, Stepped, Cleared, TasksReady, ModeReady, Ready};
-ghost use Rattle.layers.specs.Layer.{IsLayer, Advanced};
+ghost use Rattle.layers.specs.Layer.{IsLayer, Advanced, Steppable, SteppedBy};
 
 // What a module is to the engine, beside its tasks.
 pub struct Shape {
@@ -167,7 +167,7 @@ fn step(layer: &mut [u32], l: usize, shape: Shape, numbers: &[u16], heads: &[u32
 }
 
 // What stands at mode time 0 of each mode.
-fn heads(layer: &[u32], shape: Shape) -> [u32; 8]
+pub fn heads(layer: &[u32], shape: Shape) -> [u32; 8]
     requires { ⌜ (shape .modes ≤ 8) × (total (shape .periods) (shape .modes) ≤ length (now layer)) × ((k : ℕ) → k < shape .modes → 1 ≤ period shape k) ⌝ }
     ensures { λ r. ⌜ ((k : ℕ) → k < shape .modes → look r k ≡ look (now (layer .entry)) (total (shape .periods) k)) ⌝ }
 {
@@ -183,13 +183,22 @@ fn heads(layer: &[u32], shape: Shape) -> [u32; 8]
     found
 }
 
+// Whatever numbers the layer holds of the states become those of one tick earlier, where instances gain that are due within l ticks. What lies
+// past the module's states stays.
+pub fn advance_by(layer: &mut [u32], l: usize, shape: Shape, numbers: &[u16])
+    requires { ⌜ Steppable shape (now numbers) (now layer) ⌝ }
+    ensures { λ _. ⌜ SteppedBy shape (now (numbers .entry)) l (now (layer .entry)) (now (layer .exit)) ⌝ }
+{
+    let tops = heads(layer, shape);
+    step(layer, l, shape, numbers, &tops);
+}
+
 // The layer for l ticks becomes that for l + 1. What lies past the module's states stays.
 pub fn advance(layer: &mut [u32], l: usize, shape: Shape, numbers: &[u16])
     requires { ⌜ (l < 2000) × (IsLayer shape (now numbers) l (now layer)) ⌝ }
     ensures { λ _. ⌜ Advanced shape (now (numbers .entry)) l (now (layer .entry)) (now (layer .exit)) ⌝ }
 {
-    let tops = heads(layer, shape);
-    step(layer, l + 1, shape, numbers, &tops);
+    advance_by(layer, l + 1, shape, numbers);
 }
 
 // The layer for 0 ticks: the first count numbers become 0, and the others stay.

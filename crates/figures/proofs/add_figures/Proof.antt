@@ -1,11 +1,11 @@
 -- `add_figures` adds the figures one by one: so far those before i. Assumes nothing.
 use mathlib.Core.Path.{refl}
-use Prim.Native.Nat.{_+_, _-_, _≤_}
+use Prim.Native.Nat.{_-_, _≤_}
 use native.Mathlib.Omega.{arith}
 use lib.ListN.{length}
 use borrow.Author.Needs.{needs}
 use Rattle.figures.specs.Figures.{Added}
-use Rattle.figures.proofs.Sums.{added-none, added-more, added-at}
+use Rattle.figures.proofs.Cells.{added-none, added-more, added-at}
 use Rattle.figures.proofs.add_figures.Statement.{statement}
 use Rattle.figures.proofs.add_figures.Tie as tie
 

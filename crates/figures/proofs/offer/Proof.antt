@@ -28,11 +28,8 @@ loop-holds c = (omega arith, ticks-start _ _ _ _ _ _ _ (omega arith))
 quiet-requires : tie.Need-quiet-requires Inv-loop μ-loop
 quiet-requires c κs = search needs
 
-add-i : tie.Need-add-i Inv-loop μ-loop
-add-i c = search needs
-
-sub-i : tie.Need-sub-i Inv-loop μ-loop
-sub-i c = search needs
+spot-requires : tie.Need-spot-requires Inv-loop μ-loop
+spot-requires c κs = search needs
 
 mul-larger : tie.Need-mul-larger Inv-loop μ-loop
 mul-larger c = search needs
@@ -56,7 +53,11 @@ loop-less : tie.Need-loop-less Inv-loop μ-loop
 loop-less c = search needs
 
 loop-again : tie.Need-loop-again Inv-loop μ-loop
-loop-again c = let j = c .before .before .before .before .before .loop in (omega arith, ticks-more _ _ _ _ _ _ (j .e) _ _ (j .fig) (omega arith) (omega arith) (c .before .before .before .quiet .ensures) (c .before .before .if1 .taken) (c .larger .ensures) (j .inv .1))
+loop-again c =
+    let j = c .before .before .before .before .before .before .loop in (
+      omega arith,
+      ticks-more _ _ _ _ _ _ (j .e) _ _ _ (j .fig) (omega arith) (c .before .before .before .before .quiet .ensures) (c .before .before .before .if1 .taken) (c .before .before .spot .ensures) (c .larger .ensures) (j .inv .1),
+    )
 
 add-e-2 : tie.Need-add-e-2 Inv-loop μ-loop
 add-e-2 c = search needs
@@ -84,8 +85,7 @@ offer-spec =
     less-requires-2
     loop-holds
     quiet-requires
-    add-i
-    sub-i
+    spot-requires
     mul-larger
     slice-read-larger
     larger-requires

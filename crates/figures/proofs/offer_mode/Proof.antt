@@ -1,9 +1,9 @@
--- `offer_mode` offers for the tasks of one mode what its part of the layer holds. Assumes nothing.
+-- `offer_mode` offers for the tasks of one mode what its part of the layer holds; a mode that is never begun offers nothing. Assumes nothing.
 use native.Mathlib.Omega.{arith}
 use borrow.Author.Needs.{needs}
 use Rattle.layers.specs.Step.{look}
 use Rattle.layers.proofs.Sums.{sum-more}
-use Rattle.figures.proofs.Offered.{mode-offers}
+use Rattle.figures.proofs.Offered.{mode-offers, mode-unbegun}
 use Rattle.figures.proofs.offer_mode.Statement.{statement}
 use Rattle.figures.proofs.offer_mode.Tie as tie
 
@@ -40,6 +40,9 @@ element-copy-out-e c = search needs
 cast-e : tie.Need-cast-e
 cast-e c = search needs
 
+is-begun-requires : tie.Need-is-begun-requires
+is-begun-requires c κs = search needs
+
 mul-offer-tasks : tie.Need-mul-offer-tasks
 mul-offer-tasks c = search needs
 
@@ -72,10 +75,18 @@ same-length c = search needs
 
 returns : tie.Need-returns
 returns c =
-    let s = c .before .before .before .before .before .before .before .before .before .before .before .before .before in
+    let s = c .before .before .before .before .before .before .before .before .before .before .before .before .before .before .before in
     let a = s .args in (
       omega (arith, sum-more (look (a .t6 .periods)) (a .k)),
       mode-offers (a .t6) (a .numbers .now) (a .layer .now) _ _ _ _ _ _ _ (s .pre .0) (c .before .before .offer-tasks .ensures),
+    )
+
+returns-2 : tie.Need-returns-2
+returns-2 c =
+    let s = c .before .before .before .before .before .before .before .before .before in
+    let a = s .args in (
+      omega (arith, sum-more (look (a .t6 .periods)) (a .k)),
+      mode-unbegun (a .t6) (a .numbers .now) (a .layer .now) _ _ _ _ _ (s .pre .4 .ends) (c .before .is-begun .ensures (c .if1 .left)),
     )
 
 pub offer-mode-spec : {M : Type 1} → statement M
@@ -93,6 +104,7 @@ offer-mode-spec =
     mul-e
     element-copy-out-e
     cast-e
+    is-begun-requires
     mul-offer-tasks
     sub-offer-tasks
     part-offer-tasks-start
@@ -103,4 +115,5 @@ offer-mode-spec =
     part-offer-tasks-end-2
     offer-tasks-requires
     same-length
-    returns)
+    returns
+    returns-2)

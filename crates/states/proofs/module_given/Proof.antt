@@ -36,7 +36,7 @@ largest-demand-requires : tie.Need-largest-demand-requires
 largest-demand-requires c κs =
     let a = c .before .before .before .before .before .before .before in
     let i = known a in
-    (i .short, omega (arith, i .room, mid-len 0 8192 (now (a .args .work)) (omega (arith, i .room))), is-told (now (a .args .sheet)) (a .pre .accepted) (a .args .«module») (i .number) (c .before .before .before .before .engine-at .ensures))
+    (omega (arith, i .short), omega (arith, i .room, mid-len 0 8192 (now (a .args .work)) (omega (arith, i .room))), is-told (now (a .args .sheet)) (a .pre .accepted) (a .args .«module») (i .number) (c .before .before .before .before .engine-at .ensures))
 
 same-length : tie.Need-same-length
 same-length c = search needs

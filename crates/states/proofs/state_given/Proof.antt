@@ -38,7 +38,7 @@ demand-at-requires c κs =
     let i = known a in
     let bs = now (a .args .sheet) in
     let told = c .before .before .before .before .engine-at .ensures in
-    (i .short, omega (arith, i .room, mid-len 0 8192 (now (a .args .work)) (omega (arith, i .room))), omega (arith, i .mode, told .modes), omega (arith, i .time, told .each (a .args .mode) (omega (arith, i .mode, told .modes)) .period), is-told bs (a .pre .accepted) (a .args .«module») (i .number) told)
+    (omega (arith, i .short), omega (arith, i .room, mid-len 0 8192 (now (a .args .work)) (omega (arith, i .room))), omega (arith, i .mode, told .modes), omega (arith, i .time, told .each (a .args .mode) (omega (arith, i .mode, told .modes)) .period), is-told bs (a .pre .accepted) (a .args .«module») (i .number) told)
 
 same-length : tie.Need-same-length
 same-length c = search needs

@@ -1,0 +1,17 @@
+-- `counted_at` counts no instance that is released before the interval. Assumes nothing.
+use borrow.Author.Tests.{le-leb, lt-leb}
+use borrow.Author.Needs.{needs}
+use Rattle.tapes.proofs.counted_at.Statement.{statement}
+use Rattle.tapes.proofs.counted_at.Tie as tie
+
+sub-result : tie.Need-sub-result
+sub-result c = search needs
+
+returns : tie.Need-returns
+returns c = rw (le-leb _ _ (c .if1 .taken))
+
+returns-2 : tie.Need-returns-2
+returns-2 c = rw (lt-leb _ _ (c .if1 .left))
+
+pub counted-at-spec : {M : Type 1} → statement M
+counted-at-spec = tie.close (tie.spec sub-result returns returns-2)
