@@ -1,7 +1,7 @@
 -- The figures for no tick are 0; those for l - 1 ticks, with all offers of the layer for l ticks, are those for l; and none is above 32,000. Assumes nothing.
 use mathlib.Core.Path.{_≡_, refl, sym, _∙_}
 use mathlib.Core.Logic.{⊎-elim}
-use mathlib.Core.List.{List, [], _∷_, List·Memᴰ, List·Memᴰ·head, List·Memᴰ·tail}
+use mathlib.Core.List.{List, _∷_, List·Memᴰ, List·Memᴰ·head, List·Memᴰ·tail}
 use Prim.Native.Nat.{ℕ, suc, _+_, _-_, _*_, _/_, _≤_, _<_}
 use native.Mathlib.Nat.{le-antisymm, sub-zero}
 use native.Mathlib.Decide.{decLe}
@@ -47,7 +47,7 @@ module _ (m : Module) (ok : ModuleRule m) (s : Shape) (numbers : List ℕ) (told
   part-length : (k : ℕ) → k < s .modes → length (partOf s layer k) ≡ period s k
   part-length k h =
       simp (length-take, length-drop)
-      (omega (arith, told-room m ok s numbers told l layer holds, sum-before (look (s .periods)) k (s .modes) h))
+      (omega (arith, told-room m ok s numbers told (value m 0 l) layer holds, sum-before (look (s .periods)) k (s .modes) h))
 
   part-value : (k d : ℕ) → k < s .modes → d < period s k → look (partOf s layer k) d ≡ value m 0 l (at k d)
   part-value k d h i = getD-take (period s k) (drop (total (s .periods) k) layer) d 0 i ∙ getD-drop (total (s .periods) k) layer d 0 ∙ value-told m s numbers told l layer holds k d h i

@@ -13,7 +13,7 @@ use Rattle.model.proofs.Runs.{mode-rule, next-apart}
 use Rattle.layers.specs.declared.Shape.{Shape}
 use Rattle.layers.specs.Step.{period, lists, every}
 use Rattle.layers.specs.Layer.{Told}
-use Rattle.following.specs.Follow.{opens, stay, Follows, in-stay, at-head}
+use Rattle.following.specs.Follow.{opens, Follows, in-stay, at-head}
 use Rattle.following.proofs.Opens.{opens-next, next-cases}
 use Rattle.tapes.specs.declared.State.{State}
 use Rattle.tapes.specs.declared.Stepped.the-variants.{To, Closed}

@@ -1,7 +1,7 @@
 -- From the end of the interval back: the layer and the heads of a tick, from those of the tick after it. Assumes nothing.
 use mathlib.Core.Path.{_≡_, refl, sym, _∙_, ap}
 use mathlib.Core.List.{List}
-use Prim.Native.Nat.{ℕ, suc, _+_, _-_, _*_, _%_, _^_, _≤_, _<_}
+use Prim.Native.Nat.{ℕ, _+_, _-_, _%_, _^_, _≤_, _<_}
 use native.Mathlib.Nat.{mod-eq-of-lt}
 use native.Mathlib.Numerals.{add-one}
 use native.Mathlib.Decide.{decLt}
@@ -9,19 +9,19 @@ use native.Mathlib.Omega.{arith}
 use lib.ListN.{length}
 use Rattle.model.specs.Sheet.{Module}
 use Rattle.model.specs.WellFormed.{ModuleRule}
-use Rattle.model.specs.Run.{State as Moment, at, modeAt}
+use Rattle.model.specs.Run.{State as Moment, at}
 use Rattle.model.specs.Demand.{value}
 use Rattle.model.proofs.Bounds.{value-fits}
 use Rattle.model.proofs.Runs.{period-positive}
 use Rattle.layers.specs.declared.Shape.{Shape}
 use Rattle.layers.specs.Step.{look, total, period, Cleared}
-use Rattle.layers.specs.Layer.{place, statesOf, Holds, earlier, Told, Steppable, SteppedBy}
+use Rattle.layers.specs.Layer.{place, Holds, earlier, Told, Steppable, SteppedBy}
 use Rattle.layers.proofs.Bounds.{states-bound}
-use Rattle.layers.proofs.Layers.{states-told, place-inside, held-told, told-ready, told-room, layer-start}
+use Rattle.layers.proofs.Layers.{states-told, place-inside, held-told, told-ready, layer-start}
 use Rattle.following.specs.Follow.{counted}
 use Rattle.following.proofs.Ticks.{value-over, value-step}
 use Rattle.tapes.specs.States.{Tells, Each}
-use Rattle.tapes.specs.Heads.{pairAt, headOf, HeadsAt, HeadsFrom, Filled, Packed, Noted, Reached, Kept}
+use Rattle.tapes.specs.Heads.{pairAt, HeadsAt, Packed, Noted, Reached, Kept}
 use Rattle.tapes.proofs.Pairs.{packed-head, head-same}
 
 -- What a layer holds.

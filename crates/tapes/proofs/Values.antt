@@ -1,6 +1,5 @@
 -- Gains and values of a module that the numbers tell. Assumes nothing.
-use mathlib.Core.Path.{_≡_, refl, sym, _∙_, ap}
-use mathlib.Core.Bool.{Bool, true, false}
+use mathlib.Core.Path.{_≡_, sym, _∙_}
 use mathlib.Core.List.{List}
 use Prim.Native.Nat.{ℕ, suc, _+_, _-_, _/_, _≤_, _<_, max, min}
 use native.Mathlib.Nat.{add-zero}
@@ -12,7 +11,7 @@ use borrow.Author.Tests.{lt-ltb, le-ltb}
 use Rattle.model.specs.Lists.{when, maxBelow}
 use Rattle.model.specs.Sheet.{Module, modesIn}
 use Rattle.model.specs.WellFormed.{ModuleRule}
-use Rattle.model.specs.Run.{State as Moment, at, modeAt, Listed, gain}
+use Rattle.model.specs.Run.{at, modeAt, gain}
 use Rattle.model.specs.Demand.{value}
 use Rattle.model.proofs.Bounds.{value-fits}
 use Rattle.layers.specs.declared.Shape.{Shape}
@@ -53,7 +52,7 @@ module _ (m : Module) (ok : ModuleRule m) (a b t k d : ℕ) where
       pick (no h) = let over : modeAt m k .period ≤ d + i = omega arith in rw (le-ltb _ _ over) (omega arith)
 
   -- from one tick of the walk to the one before
-  pub stay-turn : (i : ℕ) → t + i < b → k < modesIn m → d + i < modeAt m k .period
+  stay-turn : (i : ℕ) → t + i < b → k < modesIn m → d + i < modeAt m k .period
       → gain m (at k (d + i)) 0 (counted a b (t + i)) + max (stayValue m a b t k d (i + 1)) (maxBelow (λ j. when (opens m (at k (d + i)) j) (value m (a - (t + i + 1)) (b - (t + i + 1)) (at j 0))) (modesIn m))
       ≡ stayValue m a b t k d i
   stay-turn i l h in-mode =

@@ -2,13 +2,13 @@
 ghost use mathlib.Core.Path.{_≡_};
 ghost use mathlib.Core.Bool.{true, _&&_};
 ghost use mathlib.Core.List.{List};
-ghost use Prim.Native.Nat.{ℕ, suc, _+_, _-_, _*_, _/_, _%_, _<_, _≤_, max, min};
+ghost use Prim.Native.Nat.{ℕ, _+_, _-_, _*_, _/_, _%_, _<_, _≤_, max, min};
 ghost use lib.Dec.{eqb};
 ghost use lib.ListN.{length, set};
 ghost use Rattle.model.specs.Lists.{when, maxOf, maxBelow};
 ghost use Rattle.model.specs.Sheet.{Module};
 ghost use Rattle.model.specs.WellFormed.{ModuleRule};
-ghost use Rattle.model.specs.Run.{State as Moment, at, first, gain, Next};
+ghost use Rattle.model.specs.Run.{State as Moment, at, gain, Next};
 ghost use Rattle.model.specs.Demand.{value, nexts};
 ghost use Rattle.model.specs.Tape.{chosen};
 ghost use Rattle.layers.specs.Step.{look, sumBelow, due, TasksReady};
@@ -16,7 +16,7 @@ ghost use Rattle.layers.specs.Layer.{Told};
 ghost use Rattle.following.specs.Follow as Follow;
 ghost use Rattle.following.specs.Follow.{opens, attains, counted};
 ghost use Rattle.tapes.specs.States.{the, Tells, Each, Within, Answers};
-ghost use Rattle.tapes.specs.Heads.{pairAt, headOf, HeadsAt, EachAt, Filled, Packed, Noted, Reached, Kept};
+ghost use Rattle.tapes.specs.Heads.{headOf, HeadsAt, EachAt, Filled, Packed, Noted, Reached, Kept};
 ghost use Rattle.tapes.specs.Taped.{Taped};
 use layers::Shape;
 
