@@ -15,11 +15,12 @@ use Rattle.model.specs.Demand.{value, moduleDemand}
 use Rattle.model.proofs.Lists.{all-mem}
 use Rattle.model.proofs.Runs.{mode-rule, best-next, next-listed}
 use Rattle.layers.specs.declared.Shape.{Shape}
+use Rattle.model.proofs.Bounds.{value-bound}
 use Rattle.layers.specs.Step.{sumBelow, look, total, period, tasksOf, next, offered, stepAt, Stepped, Cleared, ModeReady, Ready}
 use Rattle.layers.specs.Layer.{place, statesOf, Holds, Layer, earlier, ModeTold, Told, Steppable, SteppedBy}
 use Rattle.layers.proofs.Sums.{sum-before}
 use Rattle.layers.proofs.Parts.{next-inside}
-use Rattle.layers.proofs.Bounds.{gain-le, value-bound}
+use Rattle.layers.proofs.Bounds.{gain-le}
 use Rattle.layers.proofs.Nexts.{nexts-split, offered-is, gained-is, tasks-ready}
 
 -- Places.
@@ -135,7 +136,9 @@ module _ (m : Module) (ok : ModuleRule m) (s : Shape) (numbers : List ℕ) (told
 
   module _ (L : ℕ) (w : List ℕ) (layer : Layer m L w) where
     pub layer-low : L < 2000 → (k d : ℕ) → k < s .modes → d < period s k → look w (total (s .periods) k + d) + 16384 < 2 ^ 32
-    layer-low l k d h i = omega (arith, value-told m s numbers told L w layer k d h i, value-bound m ok L (at k d))
+    layer-low l k d h i =
+        let inside : d < modeAt m k .period = omega (arith, told .each k h .period) in
+        omega (arith, value-told m s numbers told L w layer k d h i, value-bound m ok 0 L (at k d) inside)
 
     pub layer-step : (w′ : List ℕ) → SteppedBy s numbers (L + 1) w w′ → Layer m (L + 1) w′
     unfolding value

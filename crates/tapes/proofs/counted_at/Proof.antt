@@ -8,10 +8,10 @@ sub-result : tie.Need-sub-result
 sub-result c = search needs
 
 returns : tie.Need-returns
-returns c = rw (le-leb _ _ (c .if1 .taken))
+returns c = let a = c .before .args in rw (le-leb (a .a) (a .t) (c .if1 .taken))
 
 returns-2 : tie.Need-returns-2
-returns-2 c = rw (lt-leb _ _ (c .if1 .left))
+returns-2 c = let a = c .before .args in rw (lt-leb (a .a) (a .t) (c .if1 .left))
 
 pub counted-at-spec : {M : Type 1} → statement M
 counted-at-spec = tie.close (tie.spec sub-result returns returns-2)
