@@ -48,6 +48,16 @@ pub record Told (m : Module) (s : Shape) (numbers : List ℕ) : Type 0 where
   pub modes : s .modes ≡ length (m .modes)
   pub each : (k : ℕ) → k < s .modes → ModeTold m s numbers k
 
+-- the numbers tell a module
+pub record Tells (s : Shape) (numbers : List ℕ) : Type 0 where
+  pub owner : Module
+  pub rule : ModuleRule owner
+  pub told : Told owner s numbers
+
+-- P holds of each module that the numbers tell
+abbrev pub Each : Shape → List ℕ → (Module → Type 0) → Type 0
+Each s numbers P = (m : Module) → ModuleRule m → Told m s numbers → P m
+
 -- w is the layer of length L of a module that the numbers tell
 pub record IsLayer (s : Shape) (numbers : List ℕ) (L : ℕ) (w : List ℕ) : Type 0 where
   pub owner : Module

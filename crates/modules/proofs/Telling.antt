@@ -19,7 +19,7 @@ use Rattle.table.specs.Numbers.{TasksOf}
 use Rattle.table.specs.declared.Tasks.{Tasks}
 use Rattle.table.proofs.Reading.{tasks-end, tasks-within, mode-tasks, switch-period-at, switch-listed-at, listed-switch, switch-listed}
 use Rattle.layers.specs.Step.{lists, every as every-of}
-use Rattle.layers.specs.Layer.{ModeTold, Told}
+use Rattle.layers.specs.Layer.{ModeTold, Told, Tells}
 use Rattle.layers.specs.declared.Shape.{Shape}
 
 period-of : (os : List Mode) (j : ℕ) → j < length os → getD (map (λ (o : Mode). o .period) os) j 0 ≡ getD os j idle .period
@@ -33,6 +33,9 @@ module _ (bs : List ℕ) (accepted : Accepted bs) (k : ℕ) (number : k < length
 
   pub rule : ModuleRule told-module
   rule = all-at ModuleRule _ (sheetIn bs .modules) (accepted-wellFormed bs (sheetIn bs) accepted .modules) k number
+
+  pub tells : {s : Shape} {numbers : List ℕ} → Told told-module s numbers → Tells s numbers
+  tells told = record { owner = told-module; rule = rule; told = told }
 
   module _ (s : Shape) (r : Tasks) (modes : s .modes ≡ length (told-module .modes)) (starts : s .starts ≡ r .starts) (tasks : TasksOf told-module r)
       (periods : Row 0 8 (periodAt told-module) (s .periods)) (every : Row 0 64 (switchPeriodAt told-module) (s .every)) (listed : Row false 64 (switchListedAt told-module) (s .listed)) where

@@ -5,7 +5,7 @@ use mathlib.Core.Bool.{Bool, true, false, cond}
 use mathlib.Core.List.{List}
 use Prim.Native.Nat.{ℕ}
 use Rattle.model.specs.Sheet.{Sheet}
-use Rattle.format.specs.Judgement.{Judgement, judgement}
+use Rattle.format.specs.Judgement.{Judgement, judgement, sheetIn, Accepted}
 
 pub data Answer (A : Type 0) : Type 0 where
   refused : ℕ → ℕ → Answer A
@@ -38,3 +38,13 @@ answerOf t f (Judgement.accepted s) = cond (t .inRange s) (cond (t .enough s) (g
 
 unfoldable pub answer : {A : Type 0} → Terms → (Sheet → A) → List ℕ → Answer A
 answer t f bytes = answerOf t f (judgement bytes)
+
+-- What the tests before an answer find: the sheet is accepted, the arguments are in range, and the lent memory is large enough.
+pub record Meets (t : Terms) (bytes : List ℕ) : Type 0 where
+  pub accepted : Accepted bytes
+  pub in-range : t .inRange (sheetIn bytes) ≡ true
+  pub enough : t .enough (sheetIn bytes) ≡ true
+
+-- whichever figure of the kind A is asked for, the call is refused with this number and place
+abbrev pub RefusedWith : Type 0 → Terms → List ℕ → ℕ → ℕ → Type 0
+RefusedWith A t bytes number place = (f : Sheet → A) → answer t f bytes ≡ refused number place

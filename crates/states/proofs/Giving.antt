@@ -14,24 +14,13 @@ use Rattle.model.specs.Run.{at, modeAt}
 use Rattle.model.specs.Demand.{value, moduleDemand}
 use Rattle.format.specs.Judgement.{sheetIn, Accepted}
 use Rattle.format.proofs.RoundTrip.{accepted-wellFormed}
-use Rattle.query.specs.Answer.{Terms, refused, given, answerOf, answer}
+use Rattle.query.specs.Answer.{Meets, refused, given}
 use Rattle.query.specs.Query.{stateTerms, moduleTerms, StateAnswer, ModuleAnswer}
+use Rattle.query.specs.Memory.{Stays}
 use Rattle.query.proofs.Answers.{state-answer, module-answer}
-use Rattle.demand.specs.declared.Demand.{Demand}
-use Rattle.demand.specs.declared.Demand.the-variants.{Refused, Given}
-use Rattle.demand.specs.declared.Amount.{Amount}
-use Rattle.layers.specs.Layer.{Told}
-use Rattle.layers.specs.declared.Shape.{Shape}
-use Rattle.modules.proofs.Telling.{rule}
-use Rattle.sums.specs.Sums.{IsTold}
-use Rattle.states.specs.Asking.{Meets, Asks}
+use Rattle.query.proofs.Meeting.{met-given}
+use Rattle.states.specs.Asking.{Asks}
 use Rattle.states.specs.declared.Asked.the-variants as asked
-use Rattle.states.specs.States.{Lent}
-
--- The figure of a call whose terms are met is given.
-met-given : (t : Terms) (bytes : List ℕ) → Meets t bytes → (f : Sheet → ℕ) → answer t f bytes ≡ given (f (sheetIn bytes))
-unfolding answer
-met-given t bytes met f = ap (answerOf t f) (met .accepted) ∙ rw (met .in-range, met .enough)
 
 -- no more modules than rows, and no length past the layers
 pub few-modules : (bytes : List ℕ) → Accepted bytes → length (sheetIn bytes .modules) ≤ maxModules
@@ -39,10 +28,6 @@ few-modules bytes accepted = accepted-wellFormed bytes (sheetIn bytes) accepted 
 
 short-horizon : (bytes : List ℕ) → Accepted bytes → sheetIn bytes .horizon ≤ maxHorizon
 short-horizon bytes accepted = accepted-wellFormed bytes (sheetIn bytes) accepted .horizon-most
-
--- a module of an accepted sheet that is told
-pub is-told : (bytes : List ℕ) → Accepted bytes → (k : ℕ) → k < length (sheetIn bytes .modules) → {s : Shape} {numbers : List ℕ} → Told (moduleAt (sheetIn bytes) k) s numbers → IsTold s numbers
-is-told bytes accepted k number told = record { owner = moduleAt (sheetIn bytes) k; rule = rule bytes accepted k number; told = told }
 
 -- The state demand.
 module _ (bytes : List ℕ) (k m d L work : ℕ) where
@@ -90,16 +75,11 @@ module _ (bytes : List ℕ) (k L work : ℕ) where
   pub module-is-refused : {n p : ℕ} → Asks (moduleTerms k L work) bytes (asked.Refused n p) → ModuleAnswer bytes k L work (refused n p)
   module-is-refused asks = subst (ModuleAnswer bytes k L work) (asks _) (module-answer bytes k L work)
 
--- The lent memory: untouched, or with another layer in its first part.
-
-pub lent-untouched : (r : Demand) (w : List ℕ) → Lent r w w
-lent-untouched r w = record { len = refl; refused = λ n p e. refl; above = refl }
-
-pub lent-layer : (amount : Amount) (w ys : List ℕ) → workNumbers ≤ length w → length ys ≡ length (midOf 0 (8192 - 0) w) → Lent (Given amount) w (putMid 0 (8192 - 0) w ys)
-lent-layer amount w ys room e =
+-- The lent memory with another layer in its first part.
+pub stays-layer : (w ys : List ℕ) → workNumbers ≤ length w → length ys ≡ length (midOf 0 (8192 - 0) w) → Stays workNumbers w (putMid 0 (8192 - 0) w ys)
+stays-layer w ys room e =
     let l : length ys ≡ 8192 = e ∙ mid-len 0 8192 w (omega arith) in
     record {
       len = same-len-mid 0 (8192 - 0) w ys e;
-      refused = λ n p q. let z : _≡_ {A = ℕ} 0 1 = cc in absurd (omega arith);
       above = sym (drop-drop 8192 8192 (putMid 0 (8192 - 0) w ys)) ∙ ap (drop 8192) (drop-put 0 8192 w ys (omega arith) (omega arith) l) ∙ drop-drop 8192 8192 w;
     }

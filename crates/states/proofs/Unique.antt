@@ -1,14 +1,15 @@
--- Two calls with the same arguments and the same lent memory that meet the contract agree: in the answer, in all of the memory after a refusal, and in what lies past the working memory always. Assumes nothing.
-use mathlib.Core.Path.{_≡_, sym, _∙_}
+-- Two calls with the same arguments and the same lent memory that meet the contract agree: in the answer, and in all of the memory that the answer does not use. Assumes nothing.
+use mathlib.Core.Path.{_≡_, sym, subst}
 use mathlib.Core.List.{List}
 use Prim.Native.Nat.{ℕ}
-use lib.ListN.{length, drop}
-use Rattle.model.specs.Limits.{workNumbers}
+use lib.ListN.{length}
+use Rattle.query.specs.Memory.{Stays, workUsed}
 use Rattle.query.proofs.Answers.{state-answer-unique, module-answer-unique}
+use Rattle.query.proofs.Meeting.{stays-agree}
 use Rattle.demand.specs.Demanded.{answerOf}
 use Rattle.demand.specs.declared.Demand.{Demand}
 use Rattle.demand.specs.declared.Demand.the-variants.{Refused, Given}
-use Rattle.states.specs.States.{Lent, StateDemanded, ModuleDemanded}
+use Rattle.states.specs.States.{StateDemanded, ModuleDemanded}
 
 answer-injective : (r q : Demand) → answerOf r ≡ answerOf q → r ≡ q
 answer-injective (Refused n p) (Refused m o) e = cc
@@ -18,22 +19,14 @@ answer-injective (Given a) (Given b) e =
     let same : a .demand ≡ b .demand = cc in
     λ i. Given (record { demand = same i })
 
--- two answers, and the memory that each leaves
+-- two answers agree, and of the memory that each leaves all but what the call uses
 pub record Agree (r q : Demand) (u v : List ℕ) : Type 0 where
   pub answer : r ≡ q
-  pub refused : (number place : ℕ) → r ≡ Refused number place → u ≡ v
-  pub len : length u ≡ length v
-  pub above : drop workNumbers u ≡ drop workNumbers v
+  pub memory : Stays (workUsed (answerOf r)) u v
 
 module _ {w u v : List ℕ} {r q : Demand} where
-  agree : r ≡ q → Lent r w u → Lent q w v → Agree r q u v
-  agree same g h =
-      record {
-        answer = same;
-        refused = λ n p e. g .refused n p e ∙ sym (h .refused n p (sym same ∙ e));
-        len = g .len ∙ sym (h .len);
-        above = g .above ∙ sym (h .above);
-      }
+  agree : r ≡ q → Stays (workUsed (answerOf r)) w u → Stays (workUsed (answerOf q)) w v → Agree r q u v
+  agree same g h = record { answer = same; memory = stays-agree g (subst (λ (x : Demand). Stays (workUsed (answerOf x)) w v) (sym same) h) }
 
   pub state-unique : {bytes : List ℕ} {k m d L : ℕ} → StateDemanded bytes k m d L w u r → StateDemanded bytes k m d L w v q → Agree r q u v
   state-unique {bytes} {k} {m} {d} {L} g h = agree (answer-injective r q (state-answer-unique bytes k m d L (length w) _ _ (g .answer) (h .answer))) (g .memory) (h .memory)

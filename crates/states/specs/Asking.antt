@@ -1,5 +1,4 @@
 -- What the tests before an answer say of a call: it is refused, or its terms are met. Assumes nothing.
-use mathlib.Core.Path.{_≡_}
 use mathlib.Core.Bool.{Bool, true, false, _&&_}
 use mathlib.Core.List.{List}
 use Prim.Native.Nat.{ℕ}
@@ -7,21 +6,14 @@ use lib.Dec.{ltb}
 use lib.ListN.{length}
 use Rattle.model.specs.Sheet.{Sheet, moduleAt}
 use Rattle.model.specs.Run.{modeAt}
-use Rattle.format.specs.Judgement.{sheetIn, Accepted}
-use Rattle.query.specs.Answer.{Terms, refused, answer}
+use Rattle.query.specs.Answer.{Terms, Meets, RefusedWith}
 use Rattle.query.specs.Query.{isMode, stateTerms, moduleTerms}
 use Rattle.states.specs.declared.Asked.{Asked}
 use Rattle.states.specs.declared.Asked.the-variants.{Refused, Sound}
 
--- the sheet is accepted, the arguments are in range, and the lent memory is large enough
-pub record Meets (t : Terms) (bytes : List ℕ) : Type 0 where
-  pub accepted : Accepted bytes
-  pub in-range : t .inRange (sheetIn bytes) ≡ true
-  pub enough : t .enough (sheetIn bytes) ≡ true
-
 -- whatever figure is asked for, the call is refused; or the terms are met
 abbrev pub Asks : Terms → List ℕ → Asked → Type 0
-Asks t bytes (Refused number place) = (f : Sheet → ℕ) → answer t f bytes ≡ refused number place
+Asks t bytes (Refused number place) = RefusedWith ℕ t bytes number place
 Asks t bytes Sound = Meets t bytes
 
 -- 9 goes before 10

@@ -15,12 +15,12 @@ use Rattle.model.specs.Demand.{moduleDemand}
 use Rattle.model.proofs.Bounds.{value-bound}
 use Rattle.layers.specs.declared.Shape.{Shape}
 use Rattle.layers.specs.Step.{look, total, period, Cleared}
-use Rattle.layers.specs.Layer.{Layer, Told, IsLayer, Advanced}
+use Rattle.layers.specs.Layer.{Layer, Told, Tells, IsLayer, Advanced}
 use Rattle.layers.proofs.Sums.{sum-before}
 use Rattle.layers.proofs.Bounds.{states-bound}
 use Rattle.layers.proofs.Parts.{cleared-at, back-below, back-above}
 use Rattle.layers.proofs.Layers.{states-told, layer-start, layer-largest}
-use Rattle.sums.specs.Sums.{IsTold, Layered, Reached, Demands, layerPart, Added, Beside, Summed}
+use Rattle.sums.specs.Sums.{Layered, Reached, Demands, layerPart, Added, Beside, Summed}
 
 -- The demand of a module is at most 16 for each tick.
 
@@ -60,18 +60,18 @@ module _ (w ys : List ℕ) (room : 16384 ≤ length w) where
 module _ (s : Shape) (numbers : List ℕ) where
   -- A module that is told has at most 8 modes and 8,192 states.
 
-  pub told-modes : IsTold s numbers → s .modes ≤ 8
+  pub told-modes : Tells s numbers → s .modes ≤ 8
   told-modes t = omega (arith, t .told .modes, t .rule .most)
 
-  pub told-states : IsTold s numbers → total (s .periods) (s .modes) ≤ 8192
+  pub told-states : Tells s numbers → total (s .periods) (s .modes) ≤ 8192
   told-states t = omega (arith, states-told (t .owner) s numbers (t .told), states-bound (t .owner) (t .rule))
 
-  pub told-place : IsTold s numbers → (k d : ℕ) → k < s .modes → d < period s k → total (s .periods) k + d < 8192
+  pub told-place : Tells s numbers → (k d : ℕ) → k < s .modes → d < period s k → total (s .periods) k + d < 8192
   told-place t k d h i = omega (arith, sum-before (look (s .periods)) k (s .modes) h, told-states t)
 
   -- The layers one after another.
 
-  pub is-layer : (L : ℕ) (w : List ℕ) → IsTold s numbers → Layered s numbers L w → IsLayer s numbers L w
+  pub is-layer : (L : ℕ) (w : List ℕ) → Tells s numbers → Layered s numbers L w → IsLayer s numbers L w
   is-layer L w t layer = record { owner = t .owner; rule = t .rule; told = t .told; layer = layer (t .owner) (t .rule) (t .told) }
 
   pub reached-start : (w w′ : List ℕ) (n : ℕ) → n ≡ total (s .periods) (s .modes) → n ≤ length w → Cleared n w w′ → Reached s numbers 0 w′ w′
@@ -98,19 +98,19 @@ module _ (s : Shape) (numbers : List ℕ) where
   pub layer-demand : (L n v : ℕ) (w : List ℕ) → n ≡ total (s .periods) (s .modes) → v ≡ maxBelow (look w) n → Layered s numbers L w → Demands s numbers L v
   layer-demand L n v w e same layer m ok told = same ∙ ap (maxBelow (look w)) e ∙ layer-largest m s numbers told L w (layer m ok told)
 
-  demands-bound : IsTold s numbers → (L v : ℕ) → Demands s numbers L v → v ≤ 16 * L
+  demands-bound : Tells s numbers → (L v : ℕ) → Demands s numbers L v → v ≤ 16 * L
   demands-bound t L v h = omega (arith, h (t .owner) (t .rule) (t .told), demand-bound (t .owner) (t .rule) L)
 
   -- The row of sums.
 
   -- the first layer, in its part
-  pub part-start : (n : ℕ) (w ys : List ℕ) → IsTold s numbers → 16384 ≤ length w → n ≡ total (s .periods) (s .modes) → Cleared n (layerPart w) ys → Layered s numbers 0 (layerPart (back w ys))
+  pub part-start : (n : ℕ) (w ys : List ℕ) → Tells s numbers → 16384 ≤ length w → n ≡ total (s .periods) (s .modes) → Cleared n (layerPart w) ys → Layered s numbers 0 (layerPart (back w ys))
   part-start n w ys t room e c m ok told =
       let fits : n ≤ length (layerPart w) = omega (arith, told-states t, part-size w room) in
       subst (Layer m 0) (sym (back-part w ys room (c .len))) (reached-start (layerPart w) ys n e fits c .layer m ok told)
 
   -- no sum is too large
-  pub sum-fits : (L d : ℕ) (w ys : List ℕ) → IsTold s numbers → L < 2000 → 16384 ≤ length w → look w (L + 1) ≤ 7 * 32000 → Demands s numbers (L + 1) d → look (back w ys) (L + 1) + d < 2 ^ 32
+  pub sum-fits : (L d : ℕ) (w ys : List ℕ) → Tells s numbers → L < 2000 → 16384 ≤ length w → look w (L + 1) ≤ 7 * 32000 → Demands s numbers (L + 1) d → look (back w ys) (L + 1) + d < 2 ^ 32
   sum-fits L d w ys t h room low demand = omega (arith, back-row w ys room (L + 1) (omega arith), demands-bound t (L + 1) d demand)
 
   pub added : (L d : ℕ) (w ys : List ℕ) → L < 2000 → 16384 ≤ length w → length ys ≡ length (layerPart w) → Layered s numbers (L + 1) ys → Demands s numbers (L + 1) d

@@ -9,19 +9,13 @@ use Rattle.model.specs.Demand.{moduleDemand}
 use Rattle.model.specs.Verdict.{Quick}
 use Rattle.layers.specs.declared.Shape.{Shape}
 use Rattle.layers.specs.Step.{look, total}
-use Rattle.layers.specs.Layer.{Layer, Told}
+use Rattle.layers.specs.Layer.{Layer, Told, Each}
 use Rattle.sums.specs.declared.Over.{Over}
 use Rattle.sums.specs.declared.Over.the-variants.{Clear, At}
 
--- the numbers tell a module
-pub record IsTold (s : Shape) (numbers : List ℕ) : Type 0 where
-  pub owner : Module
-  pub rule : ModuleRule owner
-  pub told : Told owner s numbers
-
 -- w is the layer of length L of whichever module the numbers tell
 abbrev pub Layered : Shape → List ℕ → ℕ → List ℕ → Type 0
-Layered s numbers L w = (m : Module) → ModuleRule m → Told m s numbers → Layer m L w
+Layered s numbers L w = Each s numbers (λ m. Layer m L w)
 
 -- w′ is that layer, and what lies past the module's states is as it was in w
 pub record Reached (s : Shape) (numbers : List ℕ) (L : ℕ) (w w′ : List ℕ) : Type 0 where
@@ -31,7 +25,7 @@ pub record Reached (s : Shape) (numbers : List ℕ) (L : ℕ) (w w′ : List ℕ
 
 -- v is the demand in L ticks of whichever module the numbers tell
 abbrev pub Demands : Shape → List ℕ → ℕ → ℕ → Type 0
-Demands s numbers L v = (m : Module) → ModuleRule m → Told m s numbers → v ≡ moduleDemand m L
+Demands s numbers L v = Each s numbers (λ m. v ≡ moduleDemand m L)
 
 -- The row of sums: of each length L at L, up to 2,000; behind it the part where a layer is worked out.
 

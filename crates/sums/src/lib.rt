@@ -8,8 +8,8 @@ ghost use Rattle.model.specs.Run.{at};
 ghost use Rattle.model.specs.Demand.{value};
 ghost use Rattle.model.specs.Verdict.{quickFrom};
 ghost use Rattle.layers.specs.Step.{look, total, period, Cleared};
-ghost use Rattle.layers.specs.Layer.{Told};
-ghost use Rattle.sums.specs.Sums.{IsTold, Layered, Reached, Demands, layerPart, Fits, Added, Summed, quickOf};
+ghost use Rattle.layers.specs.Layer.{Told, Tells};
+ghost use Rattle.sums.specs.Sums.{Layered, Reached, Demands, layerPart, Fits, Added, Summed, quickOf};
 use layers::Shape;
 
 // Whether a sum exceeds its length: the first length that has one, with its sum.
@@ -30,7 +30,7 @@ fn states_of(shape: Shape) -> usize
 
 // The layer for l ticks. What lies past the module's states stays.
 pub fn run_to(layer: &mut [u32], l: usize, shape: Shape, numbers: &[u16])
-    requires { ⌜ (l ≤ 2000) × (8192 ≤ length (now layer)) × (IsTold shape (now numbers)) ⌝ }
+    requires { ⌜ (l ≤ 2000) × (8192 ≤ length (now layer)) × (Tells shape (now numbers)) ⌝ }
     ensures { λ _. ⌜ Reached shape (now (numbers .entry)) l (now (layer .entry)) (now (layer .exit)) ⌝ }
 {
     layers::clear(layer, states_of(shape));
@@ -50,7 +50,7 @@ pub fn demand_at(
     k: usize,
     d: usize,
 ) -> u32
-    requires { ⌜ (l ≤ 2000) × (8192 ≤ length (now layer)) × (k < shape .modes) × (d < period shape k) × (IsTold shape (now numbers)) ⌝ }
+    requires { ⌜ (l ≤ 2000) × (8192 ≤ length (now layer)) × (k < shape .modes) × (d < period shape k) × (Tells shape (now numbers)) ⌝ }
     ensures { λ r. ⌜ ((m : Module) → ModuleRule m → Told m shape (now (numbers .entry)) → r ≡ value m 0 l (at k d)) ⌝ }
 {
     run_to(layer, l, shape, numbers);
@@ -61,7 +61,7 @@ pub fn demand_at(
 
 // The largest demand in l ticks from any state.
 pub fn largest_demand(layer: &mut [u32], l: usize, shape: Shape, numbers: &[u16]) -> u32
-    requires { ⌜ (l ≤ 2000) × (8192 ≤ length (now layer)) × (IsTold shape (now numbers)) ⌝ }
+    requires { ⌜ (l ≤ 2000) × (8192 ≤ length (now layer)) × (Tells shape (now numbers)) ⌝ }
     ensures { λ r. ⌜ Demands shape (now (numbers .entry)) l r ⌝ }
 {
     run_to(layer, l, shape, numbers);
@@ -70,7 +70,7 @@ pub fn largest_demand(layer: &mut [u32], l: usize, shape: Shape, numbers: &[u16]
 
 // The layer for l ticks becomes that for l + 1; the demand in l + 1 ticks is handed back.
 fn next_demand(layer: &mut [u32], l: usize, shape: Shape, numbers: &[u16]) -> u32
-    requires { ⌜ (l < 2000) × (8192 ≤ length (now layer)) × (IsTold shape (now numbers)) × (Layered shape (now numbers) l (now layer)) ⌝ }
+    requires { ⌜ (l < 2000) × (8192 ≤ length (now layer)) × (Tells shape (now numbers)) × (Layered shape (now numbers) l (now layer)) ⌝ }
     ensures { λ r. ⌜ (length (now (layer .exit)) ≡ length (now (layer .entry))) × (Layered shape (now (numbers .entry)) (l + 1) (now (layer .exit))) × (Demands shape (now (numbers .entry)) (l + 1) r) ⌝ }
 {
     layers::advance(layer, l, shape, numbers);
@@ -79,7 +79,7 @@ fn next_demand(layer: &mut [u32], l: usize, shape: Shape, numbers: &[u16]) -> u3
 
 // The demand in l + 1 ticks is added to its sum.
 fn add_next(work: &mut [u32], l: usize, shape: Shape, numbers: &[u16])
-    requires { ⌜ (l < 2000) × (16384 ≤ length (now work)) × (look (now work) (l + 1) ≤ 7 * 32000) × (IsTold shape (now numbers)) × (Layered shape (now numbers) l (layerPart (now work))) ⌝ }
+    requires { ⌜ (l < 2000) × (16384 ≤ length (now work)) × (look (now work) (l + 1) ≤ 7 * 32000) × (Tells shape (now numbers)) × (Layered shape (now numbers) l (layerPart (now work))) ⌝ }
     ensures { λ _. ⌜ Added shape (now (numbers .entry)) l (now (work .entry)) (now (work .exit)) ⌝ }
 {
     let more = next_demand(&mut work[2001..10193], l, shape, numbers);
@@ -89,7 +89,7 @@ fn add_next(work: &mut [u32], l: usize, shape: Shape, numbers: &[u16])
 
 // To the sum of each length from 1 to the horizon the demand in so many ticks is added. The layer stands behind the sums.
 pub fn add_demands(work: &mut [u32], horizon: usize, shape: Shape, numbers: &[u16])
-    requires { ⌜ (horizon ≤ 2000) × (16384 ≤ length (now work)) × (Fits horizon (now work)) × (IsTold shape (now numbers)) ⌝ }
+    requires { ⌜ (horizon ≤ 2000) × (16384 ≤ length (now work)) × (Fits horizon (now work)) × (Tells shape (now numbers)) ⌝ }
     ensures { λ _. ⌜ Summed shape (now (numbers .entry)) horizon (now (work .entry)) (now (work .exit)) ⌝ }
 {
     layers::clear(&mut work[2001..10193], states_of(shape));

@@ -15,12 +15,11 @@ use Rattle.model.proofs.Bounds.{value-fits}
 use Rattle.model.proofs.Runs.{period-positive}
 use Rattle.layers.specs.declared.Shape.{Shape}
 use Rattle.layers.specs.Step.{look, total, period, Cleared}
-use Rattle.layers.specs.Layer.{place, Holds, earlier, Told, Steppable, SteppedBy}
+use Rattle.layers.specs.Layer.{place, Holds, earlier, Told, Tells, Each, Steppable, SteppedBy}
 use Rattle.layers.proofs.Bounds.{states-bound}
 use Rattle.layers.proofs.Layers.{states-told, place-inside, held-told, told-ready, layer-start}
 use Rattle.following.specs.Follow.{counted}
 use Rattle.following.proofs.Ticks.{value-over, value-step}
-use Rattle.tapes.specs.States.{Tells, Each}
 use Rattle.tapes.specs.Heads.{pairAt, HeadsAt, Packed, Noted, Reached, Kept}
 use Rattle.tapes.proofs.Pairs.{packed-head, head-same}
 

@@ -15,14 +15,14 @@ use Rattle.model.specs.Demand.{nexts, value}
 use Rattle.model.specs.Tape.{chosen, tape}
 use Rattle.layers.specs.declared.Shape.{Shape}
 use Rattle.layers.specs.Step.{look}
-use Rattle.layers.specs.Layer.{Told}
+use Rattle.layers.specs.Layer.{Told, Tells, Each}
 use Rattle.layers.proofs.Layers.{told-ready}
 use Rattle.following.specs.Follow.{counted}
 use Rattle.following.proofs.Choice.{chosen-next, chosen-listed, chosen-top}
 use Rattle.following.proofs.Ticks.{value-step, step-top}
 use Rattle.following.proofs.Tapes.{tape-tick}
 use Rattle.tapes.specs.declared.State.{State}
-use Rattle.tapes.specs.States.{the, Tells, Each, Within}
+use Rattle.tapes.specs.States.{the, Within}
 use Rattle.tapes.specs.Heads.{headOf, Filled}
 use Rattle.tapes.specs.Taped.{Taped}
 use Rattle.tapes.proofs.Answers.{within-listed}

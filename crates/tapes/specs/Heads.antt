@@ -11,8 +11,7 @@ use Rattle.model.specs.Run.{State, at}
 use Rattle.model.specs.Demand.{value}
 use Rattle.layers.specs.declared.Shape.{Shape}
 use Rattle.layers.specs.Step.{look}
-use Rattle.layers.specs.Layer.{Told, Holds}
-use Rattle.tapes.specs.States.{Each}
+use Rattle.layers.specs.Layer.{Told, Each, Holds}
 
 -- where the heads of the modes 2 * i and 2 * i + 1 at tick t stand, both in one number: behind the layer, which takes at most 8,192
 abbrev pub pairAt : ℕ → ℕ → ℕ

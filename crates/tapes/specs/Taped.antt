@@ -7,7 +7,7 @@ use Rattle.model.specs.Run.{first}
 use Rattle.model.specs.Tape.{tape}
 use Rattle.layers.specs.declared.Shape.{Shape}
 use Rattle.layers.specs.Step.{look}
-use Rattle.tapes.specs.States.{Each}
+use Rattle.layers.specs.Layer.{Each}
 
 -- the first b bytes are the tape of the module in a to b, and the others are as they were
 pub record Taped (s : Shape) (numbers : List ℕ) (a b : ℕ) (w w′ : List ℕ) : Type 0 where

@@ -4,8 +4,8 @@ use lib.ListN.{length}
 use denote.Ref.{now}
 use borrow.Author.Needs.{needs}
 use borrow.Rule.Slice.PartMut.{mid-len}
-use Rattle.modules.proofs.Telling.{rule}
-use Rattle.states.proofs.Giving.{is-told, InModule, in-module, module-is, lent-layer}
+use Rattle.modules.proofs.Telling.{rule, tells}
+use Rattle.states.proofs.Giving.{InModule, in-module, module-is, stays-layer}
 use Rattle.states.proofs.module_given.Statement.{statement}
 use Rattle.states.proofs.module_given.Tie as tie
 
@@ -36,7 +36,7 @@ largest-demand-requires : tie.Need-largest-demand-requires
 largest-demand-requires c κs =
     let a = c .before .before .before .before .before .before .before in
     let i = known a in
-    (omega (arith, i .short), omega (arith, i .room, mid-len 0 8192 (now (a .args .work)) (omega (arith, i .room))), is-told (now (a .args .sheet)) (a .pre .accepted) (a .args .«module») (i .number) (c .before .before .before .before .engine-at .ensures))
+    (omega (arith, i .short), omega (arith, i .room, mid-len 0 8192 (now (a .args .work)) (omega (arith, i .room))), tells (now (a .args .sheet)) (a .pre .accepted) (a .args .«module») (i .number) (c .before .before .before .before .engine-at .ensures))
 
 same-length : tie.Need-same-length
 same-length c = search needs
@@ -49,7 +49,7 @@ returns c =
     let w = now (a .args .work) in
     record {
       answer = module-is bs (a .args .«module») (a .args .length) (length w) (a .pre) (c .before .before .largest-demand .ensures _ (rule bs (a .pre .accepted) (a .args .«module») (i .number)) (c .before .before .before .before .before .before .before .engine-at .ensures));
-      memory = lent-layer _ w (c .before .before .largest-demand .last .0) (i .room) (c .before .work .given .0);
+      memory = stays-layer w (c .before .before .largest-demand .last .0) (i .room) (c .before .work .given .0);
     }
 
 pub module-given-spec : {M : Type 1} → statement M

@@ -2,7 +2,8 @@
 use lib.ListN.{length}
 use denote.Ref.{now}
 use borrow.Author.Needs.{needs}
-use Rattle.states.proofs.Giving.{state-is-refused, lent-untouched}
+use Rattle.states.proofs.Giving.{state-is-refused}
+use Rattle.query.proofs.Meeting.{stays-untouched}
 use Rattle.states.proofs.state_demand.Statement.{statement}
 use Rattle.states.proofs.state_demand.Tie as tie
 
@@ -17,7 +18,7 @@ returns c =
     let a = c .before .before .before .before .before .before .args in
     record {
       answer = state-is-refused (now (a .sheet)) (a .«module») (a .mode) (a .time) (a .length) (length (now (a .work))) (rw (c .before .asked .given .1) at (c .before .before .before .state-asked .ensures));
-      memory = lent-untouched _ (now (a .work));
+      memory = stays-untouched _ (now (a .work));
     }
 
 enum-told : tie.Need-enum-told

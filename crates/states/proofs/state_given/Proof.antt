@@ -4,8 +4,8 @@ use lib.ListN.{length}
 use denote.Ref.{now}
 use borrow.Author.Needs.{needs}
 use borrow.Rule.Slice.PartMut.{mid-len}
-use Rattle.modules.proofs.Telling.{rule}
-use Rattle.states.proofs.Giving.{is-told, InState, in-state, state-is, lent-layer}
+use Rattle.modules.proofs.Telling.{rule, tells}
+use Rattle.states.proofs.Giving.{InState, in-state, state-is, stays-layer}
 use Rattle.states.proofs.state_given.Statement.{statement}
 use Rattle.states.proofs.state_given.Tie as tie
 
@@ -38,7 +38,7 @@ demand-at-requires c κs =
     let i = known a in
     let bs = now (a .args .sheet) in
     let told = c .before .before .before .before .engine-at .ensures in
-    (omega (arith, i .short), omega (arith, i .room, mid-len 0 8192 (now (a .args .work)) (omega (arith, i .room))), omega (arith, i .mode, told .modes), omega (arith, i .time, told .each (a .args .mode) (omega (arith, i .mode, told .modes)) .period), is-told bs (a .pre .accepted) (a .args .«module») (i .number) told)
+    (omega (arith, i .short), omega (arith, i .room, mid-len 0 8192 (now (a .args .work)) (omega (arith, i .room))), omega (arith, i .mode, told .modes), omega (arith, i .time, told .each (a .args .mode) (omega (arith, i .mode, told .modes)) .period), tells bs (a .pre .accepted) (a .args .«module») (i .number) told)
 
 same-length : tie.Need-same-length
 same-length c = search needs
@@ -51,7 +51,7 @@ returns c =
     let w = now (a .args .work) in
     record {
       answer = state-is bs (a .args .«module») (a .args .mode) (a .args .time) (a .args .length) (length w) (a .pre) (c .before .before .demand-at .ensures _ (rule bs (a .pre .accepted) (a .args .«module») (i .number)) (c .before .before .before .before .before .before .before .engine-at .ensures));
-      memory = lent-layer _ w (c .before .before .demand-at .last .0) (i .room) (c .before .work .given .0);
+      memory = stays-layer w (c .before .before .demand-at .last .0) (i .room) (c .before .work .given .0);
     }
 
 pub state-given-spec : {M : Type 1} → statement M

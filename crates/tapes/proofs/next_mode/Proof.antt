@@ -4,7 +4,8 @@ use Prim.Native.Nat.{_-_}
 use native.Mathlib.Omega.{arith}
 use borrow.Author.Needs.{needs}
 use Rattle.model.specs.Demand.{value}
-use Rattle.tapes.specs.States.{the, Each}
+use Rattle.layers.specs.Layer.{Each}
+use Rattle.tapes.specs.States.{the}
 use Rattle.tapes.proofs.Onward.{Choosing, to-low, to-ended, to-better, keeps-forced, keeps-lowest}
 use Rattle.tapes.proofs.Answers.{time-below, within-listed}
 use Rattle.tapes.proofs.next_mode.Statement.{statement}

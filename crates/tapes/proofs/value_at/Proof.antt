@@ -7,7 +7,7 @@ use mir.Val.{Fits}
 use borrow.Author.Needs.{needs}
 use Rattle.model.specs.Demand.{value}
 use Rattle.layers.specs.Step.{look, period}
-use Rattle.tapes.specs.States.{Each}
+use Rattle.layers.specs.Layer.{Each}
 use Rattle.tapes.proofs.Values.{stayValue, stay-first, stay-over, stay-fits, stay-back}
 use Rattle.tapes.proofs.value_at.Statement.{statement}
 use Rattle.tapes.proofs.value_at.Tie as tie

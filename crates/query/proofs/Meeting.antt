@@ -1,0 +1,33 @@
+-- A call whose terms are met is given its figure; a sheet's fault goes before 9, and 9 before 10; and of two calls that leave all but the first
+-- numbers of a memory as they came the memories agree there. Assumes nothing.
+use mathlib.Core.Path.{_≡_, refl, sym, _∙_, ap}
+use mathlib.Core.Bool.{true, false}
+use mathlib.Core.List.{List}
+use Prim.Native.Nat.{ℕ}
+use Rattle.model.specs.Sheet.{Sheet}
+use Rattle.format.specs.Judgement.{Judgement, judgement, sheetIn, Accepted}
+use Rattle.query.specs.Answer.{given, Terms, answerOf, answer, Meets, RefusedWith}
+use Rattle.query.specs.Memory.{Stays}
+
+module _ {A : Type 0} (t : Terms) (bytes : List ℕ) where
+  pub met-given : Meets t bytes → (f : Sheet → A) → answer t f bytes ≡ given (f (sheetIn bytes))
+  unfolding answer
+  met-given met f = ap (answerOf t f) (met .accepted) ∙ rw (met .in-range, met .enough)
+
+  pub fault-refused : {number place : ℕ} → judgement bytes ≡ Judgement.refused number place → RefusedWith A t bytes number place
+  unfolding answer
+  fault-refused e f = ap (answerOf t f) e
+
+  pub range-refused : Accepted bytes → t .inRange (sheetIn bytes) ≡ false → RefusedWith A t bytes 9 0
+  unfolding answer
+  range-refused accepted out f = ap (answerOf t f) accepted ∙ rw out
+
+  pub memory-refused : Accepted bytes → t .inRange (sheetIn bytes) ≡ true → t .enough (sheetIn bytes) ≡ false → RefusedWith A t bytes 10 0
+  unfolding answer
+  memory-refused accepted in-range short f = ap (answerOf t f) accepted ∙ rw (in-range, short)
+
+pub stays-untouched : (n : ℕ) (w : List ℕ) → Stays n w w
+stays-untouched n w = record { len = refl; above = refl }
+
+pub stays-agree : {n : ℕ} {w u v : List ℕ} → Stays n w u → Stays n w v → Stays n u v
+stays-agree g h = record { len = h .len ∙ sym (g .len); above = h .above ∙ sym (g .above) }
