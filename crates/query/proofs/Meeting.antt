@@ -1,9 +1,12 @@
--- A call whose terms are met is given its figure; a sheet's fault goes before 9, and 9 before 10; and of two calls that leave all but the first
--- numbers of a memory as they came the memories agree there. Assumes nothing.
+-- A call whose terms are met is given its figure; a sheet's fault goes before 9, and 9 before 10. And laws of memory of which only the first
+-- numbers may differ. Assumes nothing.
 use mathlib.Core.Path.{_≡_, refl, sym, _∙_, ap}
 use mathlib.Core.Bool.{true, false}
 use mathlib.Core.List.{List}
-use Prim.Native.Nat.{ℕ}
+use Prim.Native.Nat.{ℕ, _+_, _≤_}
+use native.Mathlib.Omega.{arith}
+use lib.ListN.{length, getD, drop, length-drop}
+use lib.Seq.{getD-drop, ext-getD}
 use Rattle.model.specs.Sheet.{Sheet}
 use Rattle.format.specs.Judgement.{Judgement, judgement, sheetIn, Accepted}
 use Rattle.query.specs.Answer.{given, Terms, answerOf, answer, Meets, RefusedWith}
@@ -26,8 +29,19 @@ module _ {A : Type 0} (t : Terms) (bytes : List ℕ) where
   unfolding answer
   memory-refused accepted in-range short f = ap (answerOf t f) accepted ∙ rw (in-range, short)
 
+-- Memory that stays.
+
 pub stays-untouched : (n : ℕ) (w : List ℕ) → Stays n w w
 stays-untouched n w = record { len = refl; above = refl }
 
 pub stays-agree : {n : ℕ} {w u v : List ℕ} → Stays n w u → Stays n w v → Stays n u v
 stays-agree g h = record { len = h .len ∙ sym (g .len); above = h .above ∙ sym (g .above) }
+
+pub stays-more : {n : ℕ} {w w′ w″ : List ℕ} → Stays n w w′ → Stays n w′ w″ → Stays n w w″
+stays-more old new = record { len = new .len ∙ old .len; above = new .above ∙ old .above }
+
+-- number by number
+pub stays-by : (n : ℕ) (w w′ : List ℕ) → length w′ ≡ length w → ((x : ℕ) → n ≤ x → getD w′ x 0 ≡ getD w x 0) → Stays n w w′
+stays-by n w w′ len same =
+    let long : length (drop n w′) ≡ length (drop n w) = omega (arith, length-drop n w′, length-drop n w) in
+    record { len = len; above = ext-getD 0 (drop n w′) (drop n w) long (λ x l. getD-drop n w′ x 0 ∙ same (n + x) (omega arith) ∙ sym (getD-drop n w x 0)) }

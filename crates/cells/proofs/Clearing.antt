@@ -1,0 +1,30 @@
+-- The cells, lent and back with zeros in their place. Assumes nothing.
+use mathlib.Core.Path.{_≡_, ap, _∙_}
+use mathlib.Core.List.{List, _++_}
+use Prim.Native.Nat.{ℕ, _+_, _-_, _≤_, _<_}
+use native.Mathlib.Omega.{arith}
+use lib.ListN.{length, take, List·getD-append}
+use lib.Seq.{getD-append-add, length-take-le}
+use borrow.Rule.Slice.PartMut.{putMid, midOf, postOf, same-len-mid}
+use Rattle.model.specs.Limits.{workNumbers}
+use Rattle.layers.specs.Step.{look, Cleared}
+use Rattle.layers.proofs.Parts.{part-length, back-below, back-above}
+use Rattle.cells.specs.Cells.{cellsFrom, CellsCleared}
+
+module _ (w ys : List ℕ) (room : workNumbers ≤ length w) (c : Cleared 5687 (midOf cellsFrom 5687 w) ys) where
+  size : length ys ≡ 5687
+  size = c .len ∙ part-length w cellsFrom 5687 room
+
+  back-cell : (x : ℕ) → cellsFrom ≤ x → x < workNumbers → look (putMid cellsFrom 5687 w ys) x ≡ look ys (x - cellsFrom)
+  back-cell x a b =
+      let e : x ≡ length (take cellsFrom w) + (x - cellsFrom) = omega (arith, length-take-le cellsFrom w (omega arith)) in
+      ap (look (putMid cellsFrom 5687 w ys)) e ∙ getD-append-add (take cellsFrom w) (ys ++ postOf cellsFrom 5687 w) (x - cellsFrom) 0
+      ∙ List·getD-append ys (postOf cellsFrom 5687 w) 0 (x - cellsFrom) (omega (arith, size))
+
+  pub cells-cleared : CellsCleared w (putMid cellsFrom 5687 w ys)
+  cells-cleared = record {
+    len = same-len-mid cellsFrom 5687 w ys (c .len);
+    cells = λ x a b. back-cell x a b ∙ c .zeros (x - cellsFrom) (omega arith);
+    others = back-below w cellsFrom 5687 room ys;
+    above = back-above w cellsFrom 5687 room ys size;
+  }

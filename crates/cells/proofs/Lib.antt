@@ -1,0 +1,4 @@
+pub mod Rows
+pub mod Widths
+pub mod Clearing
+pub mod Searching

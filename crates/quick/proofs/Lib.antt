@@ -1,0 +1,4 @@
+pub mod Summing
+pub mod Sums
+pub mod Giving
+pub mod Unique

@@ -1,0 +1,70 @@
+-- The row of sums as the modules' demands are added, one module after another. Assumes nothing.
+use mathlib.Core.Path.{_≡_, refl, _∙_, ap}
+use mathlib.Core.List.{List, []}
+use Prim.Native.Nat.{ℕ, _+_, _≤_, _<_}
+use native.Mathlib.Omega.{arith}
+use lib.ListN.{length, take}
+use lib.Seq.{take-length}
+use Rattle.model.specs.Lists.{sumOf}
+use Rattle.model.specs.Sheet.{Module, Sheet, moduleAt}
+use Rattle.model.specs.Limits.{workNumbers}
+use Rattle.model.specs.WellFormed.{ModuleRule, WellFormed}
+use Rattle.model.specs.Demand.{moduleDemand}
+use Rattle.model.specs.Verdict.{quickSum}
+use Rattle.model.proofs.Lists.{all-at}
+use Rattle.layers.specs.declared.Shape.{Shape}
+use Rattle.layers.specs.Step.{look, Cleared}
+use Rattle.layers.specs.Layer.{Told}
+use Rattle.sums.specs.Sums.{Fits, Summed}
+use Rattle.sums.proofs.Sums.{demand-bound}
+use Rattle.quick.specs.Sums.{ModuleAdded, SumsOf}
+use Rattle.quick.proofs.Summing.{sum-more, sum-most}
+
+-- the sum of the demands in L ticks of the first k modules
+abbrev sumTo : Sheet → ℕ → ℕ → ℕ
+sumTo s k L = sumOf (λ m. moduleDemand m L) (take k (s .modules))
+
+-- what a number that no module has names
+abbrev absent : Module
+absent = record { modes = [] }
+
+-- at each length that sum stands
+pub record SumsTo (s : Sheet) (k : ℕ) (w w′ : List ℕ) : Type 0 where
+  pub len : length w′ ≡ length w
+  pub sums : (L : ℕ) → 1 ≤ L → L ≤ s .horizon → look w′ L ≡ sumTo s k L
+  pub above : (x : ℕ) → workNumbers ≤ x → look w′ x ≡ look w x
+
+module _ (s : Sheet) where
+  -- the demands of the module that the numbers tell
+  pub module-added : (k n : ℕ) (shape : Shape) (numbers w w′ : List ℕ) → n ≡ s .horizon → ModuleRule (moduleAt s k) → Told (moduleAt s k) shape numbers → Summed shape numbers n w w′ → ModuleAdded s k w w′
+  module-added k n shape numbers w w′ e rule told done = record {
+    len = done .beside .len;
+    sums = λ L h l. done .sums _ rule told L h (omega arith);
+    above = λ x h. done .beside .above x (omega arith);
+  }
+
+  pub sums-start : (n : ℕ) (w w′ : List ℕ) → n ≡ s .horizon → Cleared (n + 1) w w′ → SumsTo s 0 w′ w′
+  sums-start n w w′ e c = record { len = refl; sums = λ L h l. c .zeros L (omega arith); above = λ x h. refl }
+
+  pub sums-more : (k : ℕ) (w w′ w″ : List ℕ) → k < length (s .modules) → SumsTo s k w w′ → ModuleAdded s k w′ w″ → SumsTo s (k + 1) w w″
+  sums-more k w w′ w″ number done new = record {
+    len = new .len ∙ done .len;
+    sums = λ L h l. omega (arith, new .sums L h l, done .sums L h l, sum-more (λ m. moduleDemand m L) absent (s .modules) k number);
+    above = λ x h. new .above x h ∙ done .above x h;
+  }
+
+  -- no sum is too large for one module more
+  pub sums-fit : WellFormed s → (n k : ℕ) (w w′ : List ℕ) → n ≡ s .horizon → k < length (s .modules) → SumsTo s k w w′ → Fits n w′
+  sums-fit ok n k w w′ e number done L h l = omega (arith, done .sums L h (omega arith), sum-most (λ m. moduleDemand m L) absent 32000 (s .modules) each k (omega arith), ok .modules-most)
+    where
+      each : (j : ℕ) → j < length (s .modules) → moduleDemand (moduleAt s j) L ≤ 32000
+      each j i = omega (arith, demand-bound (moduleAt s j) (all-at ModuleRule absent (s .modules) (ok .modules) j i) L, ok .horizon-most)
+
+  -- from the numbers before they were cleared
+  pub sums-end : WellFormed s → (n k : ℕ) (w w₀ w′ : List ℕ) → n ≡ s .horizon → k ≡ length (s .modules) → Cleared (n + 1) w w₀ → SumsTo s k w₀ w′ → SumsOf s w w′
+  unfolding quickSum
+  sums-end ok n k w w₀ w′ e same c done = record {
+    len = done .len ∙ c .len;
+    sums = λ L h l. done .sums L h l ∙ ap (sumOf (λ m. moduleDemand m L)) (ap (λ (j : ℕ). take j (s .modules)) same ∙ take-length (s .modules));
+    above = λ x h. done .above x h ∙ c .above x (omega (arith, ok .horizon-most));
+  }

@@ -1,0 +1,47 @@
+-- The module that is told to the engine is the module k, and its demands are what is added. Assumes nothing.
+use native.Mathlib.Omega.{arith}
+use denote.Ref.{now}
+use borrow.Author.Needs.{needs}
+use Rattle.model.specs.WellFormed.{WellFormed}
+use Rattle.format.specs.Judgement.{sheetIn}
+use Rattle.format.proofs.RoundTrip.{accepted-wellFormed}
+use Rattle.modules.proofs.Telling.{rule, tells}
+use Rattle.quick.proofs.Sums.{module-added}
+use Rattle.quick.proofs.add_module.Statement.{statement}
+use Rattle.quick.proofs.add_module.Tie as tie
+
+sound : (a : tie.Start) → WellFormed (sheetIn (now (a .args .sheet)))
+sound a = accepted-wellFormed _ _ (a .pre .0)
+
+engine-of-requires : tie.Need-engine-of-requires
+engine-of-requires c κs =
+    let a = c .before .before in
+    (a .pre .0, ((omega (arith, sound a .modules-most), a .pre .1 .0), a .pre .1 .1 .1 .0))
+
+slice-aggregate-add-demands : tie.Need-slice-aggregate-add-demands
+slice-aggregate-add-demands c = search needs
+
+add-demands-requires : tie.Need-add-demands-requires
+add-demands-requires c κs =
+    let a = c .before .before .before .before .before .before .before in
+    let p = a .pre .1 .1 .1 .1 in
+    (omega (arith, sound a .horizon-most, a .pre .1 .1 .0), p .0, p .1, tells (now (a .args .sheet)) (a .pre .0) (a .args .k) (a .pre .1 .0) (c .before .before .before .before .engine-of .ensures))
+
+same-length : tie.Need-same-length
+same-length c = search needs
+
+returns : tie.Need-returns
+returns c =
+    let a = c .before .before .before .before .before .before .before .before .before .before in
+    let bs = now (a .args .sheet) in
+    module-added (sheetIn bs) (a .args .k) _ _ _ _ _ (a .pre .1 .1 .0) (rule bs (a .pre .0) (a .args .k) (a .pre .1 .0)) (c .before .before .before .before .before .before .before .engine-of .ensures) (c .before .before .add-demands .ensures)
+
+pub add-module-spec : {M : Type 1} → statement M
+add-module-spec =
+    tie.close
+    (tie.spec
+    engine-of-requires
+    slice-aggregate-add-demands
+    add-demands-requires
+    same-length
+    returns)

@@ -1,0 +1,153 @@
+// The quick test: whether the sum of the modules' demands exceeds a length, and which length first.
+ghost use mathlib.Core.Path.{_≡_};
+ghost use mathlib.Core.Bool.{false};
+ghost use Prim.Native.Nat.{_<_, _≤_};
+ghost use lib.ListN.{length as count};
+ghost use Rattle.model.specs.Limits.{workNumbers};
+ghost use Rattle.format.specs.Judgement.{sheetIn, Accepted};
+ghost use Rattle.query.specs.Answer.{given};
+ghost use Rattle.query.specs.Query.{quickTerms};
+ghost use Rattle.table.specs.Rows.{Rows, periodAt, switchPeriodAt, switchListedAt};
+ghost use Rattle.sums.specs.Sums.{Fits, quickOf};
+ghost use Rattle.quick.specs.Quick.{answerOf, QuickTested};
+ghost use Rattle.quick.specs.Sums.{ModuleAdded, SumsOf};
+ghost use Rattle.quick.specs.Asking.{Asks, Sound};
+use judge::Judged;
+use sums::Over;
+
+/// What the quick test says: the refusal's number and place, clear, or over.
+pub enum Quick {
+    Refused { number: u8, place: usize },
+    Clear,
+    Over(Excess),
+}
+
+/// The smallest length whose sum exceeds it, and that sum.
+pub struct Excess {
+    pub length: u16,
+    pub demand: u32,
+}
+
+// Whether a call is refused before it is answered; else the sheet's modules and its horizon.
+enum Asked {
+    Refused { number: u8, place: usize },
+    Sound { modules: usize, horizon: usize },
+}
+
+// The refusal number of too little memory, and the memory in which a call works.
+const MEMORY_TOO_SMALL: u8 = 10;
+
+const WORK: usize = 16384;
+
+// The demands of the module k are added to the sums.
+fn add_module(
+    sheet: &[u8],
+    work: &mut [u32],
+    k: usize,
+    horizon: usize,
+    periods: [[u16; 8]; 8],
+    every: [[u16; 64]; 8],
+    listed: [[bool; 64]; 8],
+)
+    requires { ⌜ Accepted (now sheet) ⌝ }
+    requires { ⌜ k < count (sheetIn (now sheet) .modules) ⌝ }
+    requires { ⌜ horizon ≡ sheetIn (now sheet) .horizon ⌝ }
+    requires { ⌜ (Rows 0 8 periodAt (sheetIn (now sheet)) periods) × (Rows 0 64 switchPeriodAt (sheetIn (now sheet)) every) × (Rows false 64 switchListedAt (sheetIn (now sheet)) listed) ⌝ }
+    requires { ⌜ (workNumbers ≤ count (now work)) × (Fits horizon (now work)) ⌝ }
+    ensures { λ _. ⌜ ModuleAdded (sheetIn (now (sheet .entry))) k (now (work .entry)) (now (work .exit)) ⌝ }
+{
+    let engine = modules::engine_of(sheet, k, periods, every, listed);
+    let shape = engine.shape;
+    let numbers = engine.numbers;
+    sums::add_demands(work, horizon, shape, &numbers);
+}
+
+/// At each length from 1 to the horizon the sum of the modules' demands.
+pub fn quick_sums(
+    sheet: &[u8],
+    work: &mut [u32],
+    modules: usize,
+    horizon: usize,
+    periods: [[u16; 8]; 8],
+    every: [[u16; 64]; 8],
+    listed: [[bool; 64]; 8],
+)
+    requires { ⌜ Accepted (now sheet) ⌝ }
+    requires { ⌜ modules ≡ count (sheetIn (now sheet) .modules) ⌝ }
+    requires { ⌜ horizon ≡ sheetIn (now sheet) .horizon ⌝ }
+    requires { ⌜ (Rows 0 8 periodAt (sheetIn (now sheet)) periods) × (Rows 0 64 switchPeriodAt (sheetIn (now sheet)) every) × (Rows false 64 switchListedAt (sheetIn (now sheet)) listed) ⌝ }
+    requires { ⌜ workNumbers ≤ count (now work) ⌝ }
+    ensures { λ _. ⌜ SumsOf (sheetIn (now (sheet .entry))) (now (work .entry)) (now (work .exit)) ⌝ }
+{
+    sums::clear_sums(work, horizon);
+    let mut k = 0;
+    while k < modules {
+        add_module(sheet, work, k, horizon, periods, every, listed);
+        k += 1;
+    }
+}
+
+// Whether the quick test is refused, where so many numbers are lent.
+fn quick_asked(sheet: &[u8], work: usize) -> Asked
+    ensures { λ r. ⌜ Asks (quickTerms work) (now (sheet .entry)) r ⌝ }
+{
+    let judged = judge::judge(sheet);
+    match judged {
+        Judged::Refused { number, place } => Asked::Refused { number, place },
+        Judged::Accepted {
+            modules,
+            modes: _,
+            tasks: _,
+            switches: _,
+            horizon,
+        } => {
+            if work < WORK {
+                return Asked::Refused {
+                    number: MEMORY_TOO_SMALL,
+                    place: 0,
+                };
+            }
+            Asked::Sound {
+                modules: modules as usize,
+                horizon: horizon as usize,
+            }
+        }
+    }
+}
+
+// The search's answer as the test's.
+fn verdict(found: Over) -> Quick
+    ensures { λ r. ⌜ answerOf r ≡ given (quickOf found) ⌝ }
+{
+    match found {
+        Over::Clear => Quick::Clear,
+        Over::At {
+            length,
+            sum: demand,
+        } => Quick::Over(Excess { length, demand }),
+    }
+}
+
+// The quick test, where nothing refuses it.
+fn quick_given(sheet: &[u8], work: &mut [u32], modules: usize, horizon: usize) -> Quick
+    requires { ⌜ Sound (quickTerms (count (now work))) (now sheet) modules horizon ⌝ }
+    ensures { λ r. ⌜ QuickTested (now (sheet .entry)) (now (work .entry)) (now (work .exit)) r ⌝ }
+{
+    let periods = table::mode_periods(sheet);
+    let every = table::switch_periods(sheet);
+    let listed = table::switch_listed(sheet);
+    quick_sums(sheet, work, modules, horizon, periods, every, listed);
+    verdict(sums::first_over(work, horizon))
+}
+
+/// The quick test: the smallest length whose sum of the modules' demands exceeds it, or clear.
+/// A sheet's fault goes before too little memory (10).
+pub fn quick_test(sheet: &[u8], work: &mut [u32]) -> Quick
+    ensures { λ r. ⌜ QuickTested (now (sheet .entry)) (now (work .entry)) (now (work .exit)) r ⌝ }
+{
+    let asked = quick_asked(sheet, work.len());
+    match asked {
+        Asked::Refused { number, place } => Quick::Refused { number, place },
+        Asked::Sound { modules, horizon } => quick_given(sheet, work, modules, horizon),
+    }
+}
