@@ -46,9 +46,10 @@ module _ (w : List ℕ) where
     pub rows-before : (n : ℕ) → L ≤ n → inQuestion w L ≡ true → rows w (pred L) + 1 ≤ rows w n
     rows-before n h q = omega (arith, rows-last, ap (λ (t : Bool). when t 1) q, rows-grow L n h)
 
-    pub cell-more : (width i : ℕ) → cellAt w width (L + 1) i ≡ cellAt w width L i + when (inQuestion w L) 1 * width
-    cell-more width i = let e : pred (L + 1) ≡ L = omega arith in rw (e, rows-last) (omega arith)
-
     -- its row ends within the cells
     pub row-inside : (lo width : ℕ) → Tile w lo width → L < lo + width → inQuestion w L ≡ true → cellAt w width L width ≤ workNumbers
     row-inside lo width t h q = omega (arith, t .room, mul-le-mul-right width (rows-before (pred (lo + width)) (omega arith) q))
+
+    -- the cell of the next length stands a row further where this one is in question
+    pub cell-more : (width i : ℕ) → cellAt w width (L + 1) i ≡ cellAt w width L i + when (inQuestion w L) 1 * width
+    cell-more width i = let e : pred (L + 1) ≡ L = omega arith in rw (e, rows-last) (omega arith)

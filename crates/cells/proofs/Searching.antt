@@ -5,10 +5,11 @@ use mathlib.Core.List.{List}
 use Prim.Native.Nat.{ℕ, suc, _+_, _-_, _*_, _≤_, _<_}
 use native.Mathlib.Nat.{add-zero}
 use native.Mathlib.Omega.{arith}
+use lib.Dec.{ltb}
 use borrow.Author.Tests.{lt-ltb, le-ltb}
 use Rattle.model.specs.Lists.{when}
 use Rattle.model.specs.Limits.{workNumbers}
-use Rattle.model.specs.Verdict.{Exact, orElse, exactAt, exactFrom}
+use Rattle.model.specs.Verdict.{Exact, exactPick, orElse, exactAt, exactFrom}
 use Rattle.layers.specs.Step.{look}
 use Rattle.cells.specs.Cells.{cellsFrom, cellAt, Tile, Holding}
 use Rattle.cells.proofs.Rows.{rows-none, cell-more, row-inside}
@@ -18,28 +19,28 @@ module _ (f : ℕ → ℕ → ℕ) (b : ℕ) where
   unfoldable pub longer : ℕ → Exact
   longer L = exactAt f b (b + 1 - L)
 
-  pub longer-start : exactAt f b b ≡ longer 1
+  longer-start : exactAt f b b ≡ longer 1
   unfolding longer
   longer-start = let e : b + 1 - 1 ≡ b = omega arith in rw e
 
-  pub longer-none : (L : ℕ) → b < L → longer L ≡ Exact.clear
+  longer-none : (L : ℕ) → b < L → longer L ≡ Exact.clear
   unfolding longer
   longer-none L h = let e : b + 1 - L ≡ 0 = omega arith in rw e
 
-  pub longer-here : (L : ℕ) → L ≤ b → L < f (b - L) b → longer L ≡ Exact.over (b - L) b (f (b - L) b)
-  unfolding longer
-  longer-here L h l =
-      let e : b + 1 - L ≡ suc (b - L) = omega arith in
-      let s : b - (b - L) ≡ L = omega arith in
-      rw (e, s, lt-ltb L (f (b - L) b) l)
+  module _ (L : ℕ) (h : L ≤ b) where
+    longer-cut : longer L ≡ exactPick (ltb L (f (b - L) b)) (b - L) b (f (b - L) b) (longer (L + 1))
+    unfolding longer
+    longer-cut =
+        let e : b + 1 - L ≡ suc (b - L) = omega arith in
+        let n : b + 1 - (L + 1) ≡ b - L = omega arith in
+        let s : b - (b - L) ≡ L = omega arith in
+        rw (e, n, s)
 
-  pub longer-on : (L : ℕ) → L ≤ b → f (b - L) b ≤ L → longer L ≡ longer (L + 1)
-  unfolding longer
-  longer-on L h l =
-      let e : b + 1 - L ≡ suc (b - L) = omega arith in
-      let n : b + 1 - (L + 1) ≡ b - L = omega arith in
-      let s : b - (b - L) ≡ L = omega arith in
-      rw (e, n, s, le-ltb L (f (b - L) b) l)
+    longer-here : L < f (b - L) b → longer L ≡ Exact.over (b - L) b (f (b - L) b)
+    longer-here l = rw (longer-cut, lt-ltb L (f (b - L) b) l)
+
+    longer-on : f (b - L) b ≤ L → longer L ≡ longer (L + 1)
+    longer-on l = rw (longer-cut, le-ltb L (f (b - L) b) l)
 
 -- at the end of the number i the lengths before L are passed, and x is where the cell of L stands or would stand
 pub record Passed (w : List ℕ) (lo width i L x : ℕ) : Type 0 where

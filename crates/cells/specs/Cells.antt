@@ -55,6 +55,8 @@ abbrev pub foundOf : Found → Exact
 foundOf Clear = Exact.clear
 foundOf (At start end sum) = Exact.over start end sum
 
+-- The cells before the first module is added.
+
 -- all cells are 0, and nothing else has changed
 pub record CellsCleared (w w′ : List ℕ) : Type 0 where
   pub len : length w′ ≡ length w

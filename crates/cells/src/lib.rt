@@ -6,9 +6,9 @@ ghost use Rattle.model.specs.Lists.{when};
 ghost use Rattle.model.specs.Verdict.{exactAt, exactFrom};
 ghost use Rattle.cells.specs.Cells.{inQuestion, rows, Tile, Holding, CellsCleared, foundOf};
 
-// Where the cells begin in the working memory, and how many there are.
+// Where the cells begin in the working memory.
 const CELLS_FROM: usize = 10697;
-
+// How many cells there are.
 const CELLS: usize = 5687;
 
 // Whether an interval of the tile is over: the first one found, with its sum.
