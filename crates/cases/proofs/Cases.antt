@@ -10,8 +10,8 @@ use Rattle.format.specs.Encoding.{modeRecords, moduleRecords, recordsBeforeEnd,
 use Rattle.format.specs.Rules.{ordered, counted, taskRuled, switchRuled, ruled}
 use Rattle.format.specs.Judgement.{gather, tested, judgeFrom, judgement}
 use Rattle.query.specs.Answer.{answer}
-use Rattle.report.specs.Decimal.{decimalFrom}
-use Rattle.report.specs.Lines.{refusedLine, sheetLine, quickLine, exactLine, runLine, runLines, sheetLines, lines}
+use Rattle.lines.specs.Decimal.{decimalFrom}
+use Rattle.lines.specs.Lines.{refusedLine, sheetLine, quickLine, exactLine, runLine, runLines, sheetLines, lines}
 use Rattle.cases.specs.Sheets.{sheetA, sheetH, lone, sheetD, sheetE, pair, sheetF, sheetG, suspended}
 use Rattle.cases.specs.Table.{Case, table}
 

@@ -6,7 +6,7 @@ use Rattle.model.specs.Limits.{workNumbers}
 use Rattle.format.specs.Encoding.{encode}
 use Rattle.query.specs.Answer.{Answer, given}
 use Rattle.query.specs.Query.{modeAnswer, stateAnswer}
-use Rattle.report.specs.Lines.{ascii, lines}
+use Rattle.lines.specs.Lines.{ascii, lines}
 use Rattle.cases.specs.Sheets.{sheetA, sheetD, sheetE, sheetF, sheetG, sheetH, suspended}
 
 pub data Outcome : Type 0 where

@@ -8,7 +8,7 @@ use native.Mathlib.Omega.{arith}
 use lib.ListN.{length}
 use borrow.Author.Tests.{lt-ltb, le-ltb}
 use Rattle.model.specs.Lists.{All}
-use Rattle.report.specs.Decimal.{IsDigit, valueFrom, NoLeadingZero, IsDecimal, digit, decimalFrom, decimal}
+use Rattle.lines.specs.Decimal.{IsDigit, valueFrom, NoLeadingZero, IsDecimal, digit, decimalFrom, decimal}
 
 -- The two steps of the recursion, and what holds of its result because each step keeps it.
 

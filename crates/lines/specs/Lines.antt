@@ -7,7 +7,7 @@ use Rattle.model.specs.Sheet.{Sheet, counts}
 use Rattle.model.specs.Verdict.{Quick, Exact, clear, over, quick, exact}
 use Rattle.model.specs.Tape.{tapes}
 use Rattle.format.specs.Judgement.{Judgement, refused, accepted, judgement}
-use Rattle.report.specs.Decimal.{digit, decimal}
+use Rattle.lines.specs.Decimal.{digit, decimal}
 
 abbrev pub ascii : String → List ℕ
 ascii String.[] = []
