@@ -1,0 +1,103 @@
+-- What a module has come to: its marks and its layer with no tick; the figures for no tick; and with one tick more, by the next layer. Assumes nothing.
+use mathlib.Core.Path.{_≡_, refl, sym, _∙_, subst}
+use mathlib.Core.List.{List}
+use Prim.Native.Nat.{ℕ, pred, _+_, _-_, _≤_, _<_}
+use native.Mathlib.Omega.{arith}
+use lib.ListN.{length, replicate, length-replicate, getD-replicate}
+use borrow.Rule.Slice.PartMut.{putMid, midOf, mid-len}
+use Rattle.model.specs.Sheet.{Module}
+use Rattle.layers.specs.declared.Shape.{Shape}
+use Rattle.layers.specs.Step.{look, total, Cleared}
+use Rattle.layers.specs.Layer.{Layer, Each, Advanced}
+use Rattle.layers.proofs.Parts.{part-length}
+use Rattle.sums.specs.Sums.{Layered, layerPart}
+use Rattle.sums.proofs.Sums.{part-size, part-start, layered-more}
+use Rattle.marks.specs.Marks.{Marks}
+use Rattle.marks.specs.Marking.{Entered}
+use Rattle.figures.specs.Figures.{Grown}
+use Rattle.figures.proofs.Tiles.{figures-start}
+use Rattle.tiles.specs.Tiles.{marksPart, Within, Progress, Begun, Progressed}
+use Rattle.tiles.proofs.Parts.{part-look, part-before, part-behind, within-wider, within-then, put-within, put-part}
+
+-- The marks are made, then the layer is cleared.
+
+pub begun : (s : Shape) (last n : ℕ) (w ys zs : List ℕ) → 16384 ≤ length w → n ≡ total (s .periods) (s .modes)
+    → Entered s last (marksPart w) ys → Cleared n (layerPart (putMid 10193 504 w ys)) zs → Begun s last w (putMid 2001 8192 (putMid 10193 504 w ys) zs)
+begun s last n w ys zs room e entered cleared = record {
+  within = within-then (within-wider marking 2001 10697 (omega arith) (omega arith)) (within-wider clearing 2001 10697 (omega arith) (omega arith));
+  layer = λ numbers m ok told. part-start s numbers n marked zs (record { owner = m; rule = ok; told = told }) room′ e cleared m ok told;
+  marks = λ numbers m ok told. subst (Marks m last) (sym (part-behind clearing 10193 504 (omega arith) ∙ put-part 10193 504 w ys (omega arith) size)) (entered .marks m numbers ok told);
+}
+  where
+    marked : List ℕ
+    marked = putMid 10193 504 w ys
+
+    size : length ys ≡ 504
+    size = entered .len ∙ part-length w 10193 504 (omega arith)
+
+    marking : Within 10193 10697 w marked
+    marking = put-within 10193 504 w ys (omega arith) size
+
+    room′ : 16384 ≤ length marked
+    room′ = omega (arith, marking .len)
+
+    clearing : Within 2001 10193 marked (putMid 2001 8192 marked zs)
+    clearing = put-within 2001 8192 marked zs (omega (arith, room′)) (cleared .len ∙ part-size marked room′)
+
+-- The figures for no tick: the first of 512 zeros.
+
+abbrev none : ℕ → List ℕ
+none width = midOf 0 (width - 0) (replicate 512 0)
+
+module _ (width : ℕ) (few : width ≤ 512) where
+  pub none-length : length (none width) ≡ width
+  none-length = mid-len 0 width (replicate 512 0) (omega (arith, length-replicate {A = ℕ} 512 0)) ∙ omega arith
+
+  none-look : (i : ℕ) → i < length (none width) → look (none width) i ≡ 0
+  none-look i h = part-look 0 (width - 0) (replicate 512 0) i (omega (arith, none-length)) ∙ getD-replicate 512 (0 + i) 0 0 (omega (arith, none-length))
+
+  pub progress-start : (s : Shape) (numbers : List ℕ) (lo last : ℕ) (w w′ : List ℕ) → last ≡ pred (lo + width) → Begun s last w w′ → Each s numbers (λ m. Progress m lo 0 w′ (none width))
+  progress-start s numbers lo last w w′ e start m ok told = record {
+    layer = start .layer numbers m ok told;
+    marks = rw (none-length, sym e) (start .marks numbers m ok told);
+    figures = figures-start m ok lo (none width) (none width) (record { len = refl; zeros = none-look; above = λ x h. refl });
+  }
+
+-- The layer's part has advanced.
+
+module _ (s : Shape) (numbers : List ℕ) (l : ℕ) (w ys : List ℕ) (room : 16384 ≤ length w) (advanced : Advanced s numbers l (layerPart w) ys) where
+  size : length ys ≡ 8192
+  size = advanced .len ∙ part-size w room
+
+  abbrev w′ : List ℕ
+  w′ = putMid 2001 8192 w ys
+
+  advancing : Within 2001 10193 w w′
+  advancing = put-within 2001 8192 w ys (omega arith) size
+
+  pub next-layer : Layered s numbers l (layerPart w) → Layered s numbers (l + 1) (layerPart w′)
+  next-layer layer m ok told = subst (Layer m (l + 1)) (sym (put-part 2001 8192 w ys (omega arith) size)) (layered-more s numbers l (layerPart w) ys advanced layer m ok told)
+
+  pub progressed : (lo : ℕ) (fig fig′ : List ℕ) → Each s numbers (λ m. Progress m lo l w fig) → Grown s numbers (layerPart w′) (marksPart w′) lo (l + 1) fig fig′
+      → Progressed s numbers lo (l + 1) w w′ fig fig′
+  progressed lo fig fig′ before grown = record { within = advancing; size = grown .len; each = each }
+    where
+      each : Each s numbers (λ m. Progress m lo (l + 1) w′ fig′)
+      each m ok told =
+          let layer = next-layer (λ m ok told. before m ok told .layer) m ok told in
+          let marks = subst (Marks m (pred (lo + length fig))) (sym (part-behind advancing 10193 504 (omega arith))) (before m ok told .marks) in
+          let back : l + 1 - 1 ≡ l = omega arith in
+          record {
+            layer = layer;
+            marks = rw (grown .len) marks;
+            figures = grown .figures m (pred (lo + length fig)) ok told layer marks (omega arith) (rw back (before m ok told .figures));
+          }
+
+-- Where only cells have changed, a module has come to the same.
+
+pub progress-kept : {m : Module} {lo n a e : ℕ} {w w′ fig : List ℕ} → 10697 ≤ a → Within a e w w′ → Progress m lo n w fig → Progress m lo n w′ fig
+progress-kept {m} {lo} {n} {a} {e} {w} {w′} {fig} h rest before = record {
+  layer = subst (Layer m n) (sym (part-before rest 2001 8192 (omega arith))) (before .layer);
+  marks = subst (Marks m (pred (lo + length fig))) (sym (part-before rest 10193 504 (omega arith))) (before .marks);
+  figures = before .figures;
+}

@@ -1,0 +1,85 @@
+// One module's part in a tile of ends: its figures, length by length, are added to the cells of the lengths in question.
+ghost use mathlib.Core.Path.{_≡_};
+ghost use mathlib.Core.Bool.{true};
+ghost use Prim.Native.Nat.{pred, _+_, _≤_, _<_};
+ghost use lib.ListN.{length};
+ghost use Rattle.layers.specs.Step.{total};
+ghost use Rattle.layers.specs.Layer.{Tells, Each};
+ghost use Rattle.marks.specs.Marking.{Walkable};
+ghost use Rattle.cells.specs.Cells.{inQuestion, Tile};
+ghost use Rattle.tiles.specs.Tiles.{Progress, Begun, Progressed, RowFits, RowAdded, CellsFit, ModuleAdded};
+use layers::Shape;
+
+// The module's marks up to the last end, and its layer for no tick.
+fn begin(work: &mut [u32], last: usize, shape: Shape)
+    requires { ⌜ (last ≤ 2000) × (16384 ≤ length (now work)) × (Walkable shape) × (total (shape .periods) (shape .modes) ≤ 8192) ⌝ }
+    ensures { λ _. ⌜ Begun shape last (now (work .entry)) (now (work .exit)) ⌝ }
+{
+    marks::mark_entries(&mut work[10193..10697], last, shape);
+    let n = shape.modes;
+    let periods = shape.periods;
+    layers::clear(&mut work[2001..10193], layers::states(periods, n));
+}
+
+// The layer and the figures for l ticks become those for l + 1.
+fn next_figures(
+    work: &mut [u32],
+    fig: &mut [u32],
+    lo: usize,
+    l: usize,
+    shape: Shape,
+    numbers: &[u16],
+)
+    requires { ⌜ (l < 2000) × (16384 ≤ length (now work)) × (lo + length (now fig) ≤ 2001) × (Tells shape (now numbers)) × (Each shape (now numbers) (λ m. Progress m lo l (now work) (now fig))) ⌝ }
+    ensures { λ _. ⌜ Progressed shape (now (numbers .entry)) lo (l + 1) (now (work .entry)) (now (work .exit)) (now (fig .entry)) (now (fig .exit)) ⌝ }
+{
+    layers::advance(&mut work[2001..10193], l, shape, numbers);
+    figures::raise_figures(
+        fig,
+        lo,
+        l + 1,
+        &work[2001..10193],
+        &work[10193..10697],
+        shape,
+        numbers,
+    );
+}
+
+// The figures are added to the row of this number, if the length l is in question; the number of the next row is handed back.
+fn add_row(work: &mut [u32], fig: &[u32], l: usize, row: usize) -> usize
+    requires { ⌜ (l ≤ 2000) × (row ≤ l) × (16384 ≤ length (now work)) × (inQuestion (now work) l ≡ true → RowFits (now fig) row (now work)) ⌝ }
+    ensures { λ r. ⌜ RowAdded (now (fig .entry)) l row r (now (work .entry)) (now (work .exit)) ⌝ }
+{
+    if work[l] <= l as u32 {
+        return row;
+    }
+    let from = 10697 + row * fig.len();
+    let to = from + fig.len();
+    figures::add_figures(&mut work[from..to], fig);
+    row + 1
+}
+
+// All lengths up to the last end, from what the module has come to with no tick.
+fn add_lengths(work: &mut [u32], fig: &mut [u32], lo: usize, shape: Shape, numbers: &[u16])
+    requires { ⌜ (Tile (now work) lo (length (now fig))) × (CellsFit (now work) lo (length (now fig))) × (Tells shape (now numbers)) × (Each shape (now numbers) (λ m. Progress m lo 0 (now work) (now fig))) ⌝ }
+    ensures { λ _. ⌜ ModuleAdded shape (now (numbers .entry)) lo (length (now (fig .entry))) (pred (lo + length (now (fig .entry)))) (now (work .entry)) (now (work .exit)) ⌝ }
+{
+    let last = lo + fig.len() - 1;
+    let mut row = 0;
+    let mut l = 0;
+    while l < last {
+        next_figures(work, fig, lo, l, shape, numbers);
+        row = add_row(work, fig, l + 1, row);
+        l += 1;
+    }
+}
+
+// One module's figures are added to the cells of the tile of the ends from lo on.
+pub fn add_module(work: &mut [u32], lo: usize, width: usize, shape: Shape, numbers: &[u16])
+    requires { ⌜ (Tile (now work) lo width) × (CellsFit (now work) lo width) × (Tells shape (now numbers)) ⌝ }
+    ensures { λ _. ⌜ ModuleAdded shape (now (numbers .entry)) lo width (pred (lo + width)) (now (work .entry)) (now (work .exit)) ⌝ }
+{
+    begin(work, lo + width - 1, shape);
+    let mut fig = [0u32; 512];
+    add_lengths(work, &mut fig[0..width], lo, shape, numbers);
+}
