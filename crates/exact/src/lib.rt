@@ -1,0 +1,148 @@
+// The exact test: the first interval whose sum exceeds its length over runs from tick 0, and the tapes that show it.
+ghost use mathlib.Core.Path.{_≡_};
+ghost use mathlib.Core.Bool.{false, _&&_};
+ghost use Prim.Native.Nat.{_*_, _≤_};
+ghost use lib.Dec.{leb};
+ghost use lib.ListN.{length as count};
+ghost use Rattle.model.specs.Limits.{workNumbers};
+ghost use Rattle.model.specs.Verdict.{exact};
+ghost use Rattle.format.specs.Judgement.{sheetIn, Accepted};
+ghost use Rattle.query.specs.Query.{exactTerms};
+ghost use Rattle.query.specs.Memory.{Stays};
+ghost use Rattle.table.specs.Rows.{Rows, periodAt, switchPeriodAt, switchListedAt};
+ghost use Rattle.cells.specs.Cells.{foundOf};
+ghost use Rattle.search.specs.Search.{QuickSums};
+ghost use Rattle.quick.specs.Asking.{Sound};
+ghost use Rattle.exact.specs.Exact.{ExactTested};
+ghost use Rattle.exact.specs.Asking.{Asks, sound};
+use cells::Found;
+use judge::Judged;
+use sums::Over;
+
+/// What the exact test says: the refusal's number and place, clear, or over.
+pub enum Exact {
+    Refused { number: u8, place: usize },
+    Clear,
+    Over(Interval),
+}
+
+/// The first interval whose sum exceeds its length, and that sum.
+pub struct Interval {
+    pub start: u16,
+    pub end: u16,
+    pub demand: u32,
+}
+
+// Whether a call is refused before it is answered; else the sheet's modules and its horizon.
+enum Asked {
+    Refused { number: u8, place: usize },
+    Sound { modules: usize, horizon: usize },
+}
+
+// The refusal number of too little memory, and the memory in which a call works.
+const MEMORY_TOO_SMALL: u8 = 10;
+
+const WORK: usize = 16384;
+
+// Too little memory of either kind refuses the call.
+fn tested(modules: usize, horizon: usize, work: usize, tape: usize) -> Asked
+    requires { ⌜ (modules ≤ 8) × (horizon ≤ 2000) ⌝ }
+    ensures { λ r. ⌜ r ≡ sound (leb workNumbers work && leb (modules * horizon) tape) modules horizon ⌝ }
+{
+    if work < WORK {
+        return Asked::Refused {
+            number: MEMORY_TOO_SMALL,
+            place: 0,
+        };
+    }
+    if tape < modules * horizon {
+        return Asked::Refused {
+            number: MEMORY_TOO_SMALL,
+            place: 0,
+        };
+    }
+    Asked::Sound { modules, horizon }
+}
+
+// Whether the exact test is refused, where so many numbers and so many bytes are lent.
+fn exact_asked(sheet: &[u8], work: usize, tape: usize) -> Asked
+    ensures { λ r. ⌜ Asks (exactTerms work tape) (now (sheet .entry)) r ⌝ }
+{
+    let judged = judge::judge(sheet);
+    match judged {
+        Judged::Refused { number, place } => Asked::Refused { number, place },
+        Judged::Accepted {
+            modules,
+            modes: _,
+            tasks: _,
+            switches: _,
+            horizon,
+        } => tested(modules as usize, horizon as usize, work, tape),
+    }
+}
+
+// The first interval that is over, where the quick sums stand in the working memory: none where no length is in question.
+fn first_interval(
+    sheet: &[u8],
+    work: &mut [u32],
+    modules: usize,
+    horizon: usize,
+    periods: [[u16; 8]; 8],
+    every: [[u16; 64]; 8],
+    listed: [[bool; 64]; 8],
+) -> Found
+    requires { ⌜ Accepted (now sheet) ⌝ }
+    requires { ⌜ modules ≡ count (sheetIn (now sheet) .modules) ⌝ }
+    requires { ⌜ horizon ≡ sheetIn (now sheet) .horizon ⌝ }
+    requires { ⌜ (Rows 0 8 periodAt (sheetIn (now sheet)) periods) × (Rows 0 64 switchPeriodAt (sheetIn (now sheet)) every) × (Rows false 64 switchListedAt (sheetIn (now sheet)) listed) ⌝ }
+    requires { ⌜ (workNumbers ≤ count (now work)) × (QuickSums (sheetIn (now sheet)) (now work)) ⌝ }
+    ensures { λ r. ⌜ (foundOf r ≡ exact (sheetIn (now (sheet .entry)))) × (Stays workNumbers (now (work .entry)) (now (work .exit))) ⌝ }
+{
+    if let Over::Clear = sums::first_over(work, horizon) {
+        return Found::Clear;
+    }
+    search::search(sheet, work, modules, horizon, periods, every, listed)
+}
+
+// The exact test, where nothing refuses it.
+fn exact_given(
+    sheet: &[u8],
+    work: &mut [u32],
+    tape: &mut [u8],
+    modules: usize,
+    horizon: usize,
+) -> Exact
+    requires { ⌜ Sound (exactTerms (count (now work)) (count (now tape))) (now sheet) modules horizon ⌝ }
+    ensures { λ r. ⌜ ExactTested (now (sheet .entry)) (now (work .entry)) (now (work .exit)) (now (tape .entry)) (now (tape .exit)) r ⌝ }
+{
+    let periods = table::mode_periods(sheet);
+    let every = table::switch_periods(sheet);
+    let listed = table::switch_listed(sheet);
+    quick::quick_sums(sheet, work, modules, horizon, periods, every, listed);
+    let found = first_interval(sheet, work, modules, horizon, periods, every, listed);
+    match found {
+        Found::Clear => Exact::Clear,
+        Found::At { start, end, sum } => {
+            let a = start as usize;
+            let b = end as usize;
+            witness::write_tapes(sheet, a, b, work, tape, modules, periods, every, listed);
+            Exact::Over(Interval {
+                start,
+                end,
+                demand: sum,
+            })
+        }
+    }
+}
+
+/// The exact test: the first interval whose sum exceeds its length over runs from tick 0, with the tapes that show it, or clear.
+/// A sheet's fault goes before too little memory (10).
+pub fn exact_test(sheet: &[u8], work: &mut [u32], tape: &mut [u8]) -> Exact
+    ensures { λ r. ⌜ ExactTested (now (sheet .entry)) (now (work .entry)) (now (work .exit)) (now (tape .entry)) (now (tape .exit)) r ⌝ }
+{
+    let asked = exact_asked(sheet, work.len(), tape.len());
+    match asked {
+        Asked::Refused { number, place } => Exact::Refused { number, place },
+        Asked::Sound { modules, horizon } => exact_given(sheet, work, tape, modules, horizon),
+    }
+}
