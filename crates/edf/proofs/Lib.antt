@@ -8,4 +8,3 @@ pub mod Clear
 pub mod Building
 pub mod Verdicts
 pub mod Meaning
-pub mod Bytes
