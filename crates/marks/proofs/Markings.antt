@@ -3,9 +3,9 @@ use mathlib.Core.Path.{_≡_, refl, sym, ap, _∙_, subst}
 use mathlib.Core.Bool.{Bool, true, false}
 use mathlib.Core.List.{List}
 use mathlib.Core.Logic.{_⊎_, inl, inr, ⊎-elim, _≢_}
-use Prim.Native.Nat.{ℕ, _+_, _-_, _*_, _/_, _%_, _^_, _≤_, _<_, min}
+use Prim.Native.Nat.{ℕ, suc, _+_, _-_, _*_, _/_, _%_, _^_, _≤_, _<_, min, max}
 use native.Mathlib.Decide.{decLt, ℕ-discrete as decEq}
-use native.Mathlib.Nat.{one-le-mul, le-div-iff-mul-le, mul-le-mul-right, div-mul-le-self, div-le-self}
+use native.Mathlib.Nat.{one-le-mul, suc-mul, le-div-iff-mul-le, mul-le-mul-right, div-mul-le-self, div-le-self}
 use native.Mathlib.Omega.{arith}
 use lib.Dec.{eqb}
 use lib.ListN.{length, getD, set, length-set}
@@ -15,7 +15,7 @@ use borrow.Author.Tests.{eq-eqb}
 use Rattle.layers.specs.declared.Shape.{Shape}
 use Rattle.layers.specs.Step.{period, lists, every}
 use Rattle.marks.specs.Marks.{marked}
-use Rattle.marks.specs.Marking.{Marking, Room, Stride, Opens, Follows, again, switched, Tick, Walkable}
+use Rattle.marks.specs.Marking.{Marking, Room, Stride, Laid, Opens, Follows, again, switched, Tick, Walkable, Walked}
 use Rattle.marks.proofs.Bits.{bit, set-on, set-other}
 
 -- One mark.
@@ -66,8 +66,12 @@ mark-one k t v w e hk ht room = rw e (one-marked k t w hk ht room)
 
 -- One step after another.
 
+-- where all of P is marked already
+marking-done : (P : ℕ → ℕ → Type 0) (w : List ℕ) → ((k t : ℕ) → P k t → marked w k t ≡ true) → Marking P w w
+marking-done P w done = record { len = refl; above = λ x h. refl; old = λ k t a b o. o; new = λ k t a b. done k t; only = λ k t a b o. inl o }
+
 pub marking-none : (P : ℕ → ℕ → Type 0) (w : List ℕ) → ((k t : ℕ) → P k t → ⊥) → Marking P w w
-marking-none P w never = record { len = refl; above = λ x h. refl; old = λ k t a b o. o; new = λ k t a b p. absurd (never k t p); only = λ k t a b o. inl o }
+marking-none P w never = marking-done P w (λ k t p. absurd (never k t p))
 
 -- where a test that P needs has failed
 pub marking-off : (P : ℕ → ℕ → Type 0) (w : List ℕ) (b : Bool) → b ≡ false → ((k t : ℕ) → P k t → b ≡ true) → Marking P w w
@@ -99,8 +103,9 @@ marking-as P Q to from A = record {
 pub marking-at : (P : ℕ → ℕ → ℕ → Type 0) (a b : ℕ) {w w′ : List ℕ} → a ≡ b → Marking (P a) w w′ → Marking (P b) w w′
 marking-at P a b {w} {w′} e A = subst (λ (n : ℕ). Marking (P n) w w′) e A
 
-pub room-kept : {h t : ℕ} {w w′ : List ℕ} → length w′ ≡ length w → Room h t w → Room h t w′
-room-kept e r = record { within = r .within; most = r .most; numbers = omega arith }
+-- where all of P is at tick n or later, the marks before it are as they were
+marking-before : (P : ℕ → ℕ → Type 0) (n : ℕ) {w w′ : List ℕ} → ((k t : ℕ) → P k t → n ≤ t) → Marking P w w′ → (k t : ℕ) → k < 8 → t < 2016 → t < n → marked w′ k t ≡ true → marked w k t ≡ true
+marking-before P n later A k t a b l o = ⊎-elim (λ z. z) (λ p. absurd (omega (arith, later k t p))) (A .only k t a b o)
 
 -- The strides of a switch.
 
@@ -111,9 +116,25 @@ pub record Sofar (q t i x : ℕ) : Type 0 where
   pub before : count < i
   pub reached : x ≡ t + count * q
 
+pub strides-few : (a q n : ℕ) → n ≡ a / q → n ≤ a
+strides-few a q n e = omega (arith, div-le-self a q)
+
+-- a stride that is counted fits
+pub stride-fits : (a q n i : ℕ) → n ≡ a / q → i ≤ n → i * q ≤ a
+stride-fits a q n i e h = omega (arith, mul-le-mul-right q h, ap (λ (x : ℕ). x * q) e, div-mul-le-self a q)
+
 module _ (q t j : ℕ) where
-  pub switch-start : (w : List ℕ) → Marking (λ k x. (k ≡ j) × Sofar q t 1 x) w w
-  switch-start w = marking-none _ w (λ k x p. omega (arith, p .1 .some, p .1 .before))
+  -- the strides below i are marked: counted from t - q, where the mode k is marked, each is the next one
+  pub switch-start : (h p k n i : ℕ) (w : List ℕ) → 1 ≤ q → n ≡ min (h - t) p / q → Laid p q h t k j w → i ≤ max 1 n → (1 < i → (q ≤ t) × (marked w k (t - q) ≡ true))
+      → Marking (λ k x. (k ≡ j) × Sofar q t i x) w w
+  switch-start h p k n i w pos e laid few on = marking-done _ w done
+    where
+      done : (l x : ℕ) → (l ≡ j) × Sofar q t i x → marked w l x ≡ true
+      done l x (a, s) =
+          let (back, o) = on (omega (arith, s .some, s .before)) in
+          let fits : suc (s .count) * q ≤ min (h - t) p = stride-fits (min (h - t) p) q n (suc (s .count)) e (omega (arith, s .some, s .before)) in
+          let reached : x ≡ (t - q) + suc (s .count) * q = omega (arith, s .reached, suc-mul (s .count) q) in
+          rw a (laid (t - q) x (omega arith) o (omega arith) (record { count = suc (s .count); some = omega arith; fits = omega arith; reached = reached }))
 
   pub switch-more : (i : ℕ) {w w′ w″ : List ℕ} → 1 ≤ i → Marking (λ k x. (k ≡ j) × Sofar q t i x) w w′ → Marking (λ k x. (k ≡ j) × (x ≡ t + i * q)) w′ w″
       → Marking (λ k x. (k ≡ j) × Sofar q t (i + 1) x) w w″
@@ -150,13 +171,6 @@ module _ (q t j : ℕ) where
           let few : s .count ≤ min (h - t) p / q = le-div-iff-mul-le pos .1 (omega (arith, s .fits, s .reached)) in
           (a, record { count = s .count; some = s .some; before = omega arith; reached = s .reached })
 
-pub strides-few : (a q n : ℕ) → n ≡ a / q → n ≤ a
-strides-few a q n e = omega (arith, div-le-self a q)
-
--- a stride that is counted fits
-pub stride-fits : (a q n i : ℕ) → n ≡ a / q → i ≤ n → i * q ≤ a
-stride-fits a q n i e h = omega (arith, mul-le-mul-right q h, ap (λ (x : ℕ). x * q) e, div-mul-le-self a q)
-
 -- The targets of a mode, those below n.
 
 module _ (s : Shape) (h k t : ℕ) where
@@ -190,17 +204,34 @@ module _ (s : Shape) (h k t : ℕ) where
       split j x (o, again a b c) = inl (a, b, c)
       split j x (o, switched p) = inr p
 
+-- The walk to a tick.
+
+-- a mode leads to a mode, later and up to the horizon
+pub follows-later : (s : Shape) (h k t j x : ℕ) → Walkable s → k < s .modes → Follows s h k t j x → (j < s .modes) × (t < x) × (x ≤ h)
+follows-later s h k t j x ok i (again a b c) = (omega arith, omega (arith, ok .positive k i), c)
+follows-later s h k t j x ok i (switched o) = (o .target, omega (arith, o .stride .reached, one-le-mul (o .stride .some) (ok .switches k j i (o .target) (o .listed))), o .within)
+
+-- marks at tick t and later leave the walk to it as it is
+pub walked-kept : (P : ℕ → ℕ → Type 0) {s : Shape} {h t : ℕ} {w w′ : List ℕ} → Walkable s → ((k x : ℕ) → P k x → t ≤ x) → Marking P w w′ → Walked s h t w → Walked s h t w′
+walked-kept P {s} {h} {t} {w} {w′} ok later A W = record { room = record { within = R .within; most = R .most; numbers = omega (arith, A .len, R .numbers) }; closed = closed }
+  where
+    R : Room h t w
+    R = W .room
+
+    closed : (k e j x : ℕ) → k < s .modes → e < t → marked w′ k e ≡ true → Follows s h k e j x → marked w′ j x ≡ true
+    closed k e j x i l o f =
+        let (there, after, within) = follows-later s h k e j x ok i f in
+        A .old j x (omega (arith, ok .few)) (omega (arith, R .most)) (W .closed k e j x i l (marking-before P t later A k e (omega (arith, ok .few)) (omega (arith, R .within, R .most)) l o) f)
+
 -- The modes at a tick, those below n.
 
--- what a mode leads to comes later
-follows-later : (s : Shape) (h k t j x : ℕ) → Walkable s → k < s .modes → Follows s h k t j x → t < x
-follows-later s h k t j x ok i (again a b c) = omega (arith, ok .positive k i)
-follows-later s h k t j x ok i (switched o) = omega (arith, o .stride .reached, one-le-mul (o .stride .some) (ok .switches k j i (o .target) (o .listed)))
+pub tick-later : (s : Shape) (h t : ℕ) → Walkable s → (n : ℕ) (w : List ℕ) → n ≤ s .modes → (j x : ℕ) → Tick s h t n w j x → t < x
+tick-later s h t ok n w i j x a = follows-later s h (a .mode) t j x ok (omega (arith, a .there)) (a .follows) .1
 
 module _ (s : Shape) (h t : ℕ) (ok : Walkable s) (in-row : t < 2016) where
   -- the marks at the tick itself are as they were
-  tick-same : (n : ℕ) {w w′ : List ℕ} → n ≤ s .modes → Marking (Tick s h t n w) w w′ → (k : ℕ) → k < 8 → marked w′ k t ≡ true → marked w k t ≡ true
-  tick-same n i A k l o = ⊎-elim (λ z. z) (λ z. absurd (omega (arith, follows-later s h (z .mode) t k t ok (omega (arith, z .there)) (z .follows)))) (A .only k t l in-row o)
+  pub tick-same : (n : ℕ) {w w′ : List ℕ} → n ≤ s .modes → Marking (Tick s h t n w) w w′ → (k : ℕ) → k < 8 → marked w′ k t ≡ true → marked w k t ≡ true
+  tick-same n {w} i A k l = marking-before _ (t + 1) (λ j x a. omega (arith, tick-later s h t ok n w i j x a)) A k t l in-row (omega arith)
 
   pub tick-none : (w : List ℕ) → Marking (Tick s h t 0 w) w w
   tick-none w = marking-none _ w (λ j x a. omega (arith, a .there))

@@ -21,7 +21,8 @@ use Rattle.layers.specs.Step.{Cleared}
 use Rattle.layers.specs.Layer.{Told}
 use Rattle.layers.proofs.Layers.{told-ready}
 use Rattle.marks.specs.Marks.{marked}
-use Rattle.marks.specs.Marking.{Marking, Follows, again, switched, Tick, Walkable, Followed, FollowedBy, Kept, Entered}
+use Rattle.marks.specs.Marking.{Marking, Follows, again, switched, Tick, Walkable, Walked, Followed, Kept, Entered}
+use Rattle.marks.proofs.Markings.{follows-later, walked-kept, tick-later, tick-same}
 
 -- the numbers that tell a module can be walked
 pub told-walkable : (m : Module) (s : Shape) (numbers : List ℕ) → ModuleRule m → Told m s numbers → Walkable s
@@ -45,21 +46,12 @@ blank w w′ c k t hk ht o =
     let q : 0 / 2 ^ (t % 32) % 2 ≡ 1 = ap (λ (v : ℕ). v / 2 ^ (t % 32) % 2) (sym z) ∙ eqb-true _ _ o in
     omega (arith, zero-div (2 ^ (t % 32)))
 
-module _ (s : Shape) (h : ℕ) (most : h ≤ 2000) where
-  pub followed-start : (w w′ w″ : List ℕ) → Cleared 504 w w′ → Marking (λ j x. (j ≡ 0) × (x ≡ 0)) w′ w″ → FollowedBy s h 0 w″
-  followed-start w w′ w″ c A m numbers rule told = record {
-    sound = λ k t i l o. let j : k < 8 = omega (arith, rule .most) in ⊎-elim (λ z. absurd (blank w w′ c k t j (omega arith) z)) (λ z. begins (z .0) (z .1)) (A .only k t j (omega arith) o);
-    first = A .new 0 0 (omega arith) (omega arith) (refl, refl);
-    closed = λ j e k x i. absurd (omega arith);
-  }
-
-module _ (m : Module) (rule : ModuleRule m) (h n : ℕ) (w : List ℕ) (F : Followed m h n w) where
-  -- the entries up to tick n are marked: each comes from one before tick n
-  entries-marked : (k t : ℕ) → t ≤ n → t ≤ h → Entry m k t → marked w k t ≡ true
-  entries-marked k zero i l x = rw (entry-first m rule k x) (F .first)
-  entries-marked k (suc t) i l x =
-      let (j, e, earlier, y, leads) = entry-earlier m rule k (suc t) x (omega arith) in
-      F .closed j e k (suc t) (omega arith) l y leads
+pub followed-start : (s : Shape) (h : ℕ) (w w′ w″ : List ℕ) → h ≤ 2000 → 504 ≤ length w → Cleared 504 w w′ → Marking (λ j x. (j ≡ 0) × (x ≡ 0)) w′ w″ → Followed s h 0 w″
+followed-start s h w w′ w″ most room c A = record {
+  walked = record { room = record { within = omega arith; most = most; numbers = omega (arith, A .len, c .len) }; closed = λ k e j x i l. absurd (omega arith) };
+  first = A .new 0 0 (omega arith) (omega arith) (refl, refl);
+  sound = λ m numbers rule told k t i l o. let j : k < 8 = omega (arith, rule .most) in ⊎-elim (λ z. absurd (blank w w′ c k t j (omega arith) z)) (λ z. begins (z .0) (z .1)) (A .only k t j (omega arith) o);
+}
 
 -- By the numbers a mode leads to what it leads to in the module that they tell.
 
@@ -82,48 +74,56 @@ module _ (m : Module) (s : Shape) (numbers : List ℕ) (rule : ModuleRule m) (to
     stride = record { count = i; some = some; fits = rw same (omega (arith, told .each k in-module .period)); reached = rw same reached };
   }))
 
-module _ (s : Shape) (h : ℕ) (most : h ≤ 2000) where
-  pub followed-more : (n : ℕ) {w w′ : List ℕ} → n < h → FollowedBy s h n w → Marking (Tick s h n (s .modes) w) w w′ → FollowedBy s h (n + 1) w′
-  followed-more n {w} {w′} i before A m numbers rule told = record { sound = sound; first = A .old 0 0 (omega arith) (omega arith) (F .first); closed = closed }
+-- The marks that a tick leads to bring the walk to the next.
+
+module _ (s : Shape) (h n : ℕ) (ok : Walkable s) {w w′ : List ℕ} (i : n < h) (A : Marking (Tick s h n (s .modes) w) w w′) where
+  walked-more : Walked s h n w → Walked s h (n + 1) w′
+  walked-more W = record { room = record { within = omega arith; most = W .room .most; numbers = K .room .numbers }; closed = closed }
     where
-      F : Followed m h n w
-      F = before m numbers rule told
+      K : Walked s h n w′
+      K = walked-kept _ ok (λ j x a. omega (arith, tick-later s h n ok (s .modes) w (omega arith) j x a)) A W
 
-      few : (k : ℕ) → k < length (m .modes) → k < 8
-      few k l = omega (arith, rule .most)
-
-      inside : (k : ℕ) → k < length (m .modes) → k < s .modes
-      inside k l = omega (arith, told .modes)
-
-      sound : (k t : ℕ) → k < length (m .modes) → t ≤ h → marked w′ k t ≡ true → Entry m k t
-      sound k t l b o =
-          ⊎-elim
-          (λ z. F .sound k t l b z)
-          (λ z. entry-led m (z .mode) n k t (F .sound (z .mode) n (omega (arith, told .modes, z .there)) (omega arith) (z .on)) (follows-leads m s numbers rule told h (z .mode) n k t (z .there) (z .follows)))
-          (A .only k t (few k l) (omega arith) o)
-
-      closed : (j e k x : ℕ) → e < n + 1 → x ≤ h → Entry m j e → Leads m j e k x → marked w′ k x ≡ true
-      closed j e k x l b y leads = pick (decLt e n)
+      closed : (k e j x : ℕ) → k < s .modes → e < n + 1 → marked w′ k e ≡ true → Follows s h k e j x → marked w′ j x ≡ true
+      closed k e j x l b o f = pick (decLt e n)
         where
-          listed : k < 8
-          listed = few k (entry-listed m rule k x (entry-led m j e k x y leads))
-
-          pick : Dec (e < n) → marked w′ k x ≡ true
-          pick (yes a) = A .old k x listed (omega arith) (F .closed j e k x a b y leads)
+          pick : Dec (e < n) → marked w′ j x ≡ true
+          pick (yes a) = K .closed k e j x l a o f
           pick (no a) =
               let same : e ≡ n = omega arith in
-              let z : j < s .modes = inside j (entry-listed m rule j e y) in
-              A .new k x listed (omega arith) (record { mode = j; there = z; on = entries-marked m rule h n w F j n (omega arith) (omega arith) (rw same at y); follows = leads-follows m s numbers rule told h j n k x z b (rw same at leads) })
+              let (there, later, within) = follows-later s h k e j x ok l f in
+              let on : marked w k n ≡ true = tick-same s h n ok (omega (arith, W .room .most)) (s .modes) (omega arith) A k (omega (arith, ok .few)) (rw same at o) in
+              A .new j x (omega (arith, ok .few)) (omega (arith, W .room .most)) (record { mode = k; there = l; on = on; follows = rw same at f })
 
-pub followed-at : (s : Shape) (h a b : ℕ) (w : List ℕ) → a ≡ b → FollowedBy s h a w → FollowedBy s h b w
+  pub followed-more : Followed s h n w → Followed s h (n + 1) w′
+  followed-more F = record { walked = walked-more (F .walked); first = A .old 0 0 (omega arith) (omega arith) (F .first); sound = sound }
+    where
+      sound : (m : Module) (numbers : List ℕ) → ModuleRule m → Told m s numbers → (k x : ℕ) → k < length (m .modes) → x ≤ h → marked w′ k x ≡ true → Entry m k x
+      sound m numbers rule told k x l b o =
+          ⊎-elim
+          (λ z. F .sound m numbers rule told k x l b z)
+          (λ z. entry-led m (z .mode) n k x (F .sound m numbers rule told (z .mode) n (omega (arith, told .modes, z .there)) (omega arith) (z .on)) (follows-leads m s numbers rule told h (z .mode) n k x (z .there) (z .follows)))
+          (A .only k x (omega (arith, rule .most)) (omega (arith, F .walked .room .most)) o)
+
+pub followed-at : (s : Shape) (h a b : ℕ) (w : List ℕ) → a ≡ b → Followed s h a w → Followed s h b w
 followed-at s h a b w e = rw e (λ F. F)
 
--- at the horizon all entries are marked
-pub entered : (s : Shape) (h : ℕ) {P : ℕ → ℕ → Type 0} {w w′ w″ end : List ℕ} → Cleared 504 w w′ → Marking P w′ w″ → Kept w″ end → FollowedBy s h h end → Entered s h w end
-entered s h {end = end} c A K followed = record {
+-- At the horizon all entries are marked: each comes from one before it.
+
+module _ (s : Shape) (h : ℕ) (w : List ℕ) (F : Followed s h h w) (m : Module) (numbers : List ℕ) (rule : ModuleRule m) (told : Told m s numbers) where
+  entry-marked : (k t : ℕ) → t ≤ h → Entry m k t → ((j e : ℕ) → e < t → Entry m j e → marked w j e ≡ true) → marked w k t ≡ true
+  entry-marked k zero l x earlier = rw (entry-first m rule k x) (F .first)
+  entry-marked k (suc t) l x earlier =
+      let (j, e, b, y, leads) = entry-earlier m rule k (suc t) x (omega arith) in
+      let there : j < s .modes = omega (arith, told .modes, entry-listed m rule j e y) in
+      F .walked .closed j e k (suc t) there (omega arith) (earlier j e b y) (leads-follows m s numbers rule told h j e k (suc t) there l leads)
+
+  entries-marked : (n k t : ℕ) → t < n → t ≤ h → Entry m k t → marked w k t ≡ true
+  entries-marked zero k t i l x = absurd (omega arith)
+  entries-marked (suc n) k t i l x = entry-marked k t l x (λ j e b y. entries-marked n j e (omega arith) (omega arith) y)
+
+pub entered : (s : Shape) (h : ℕ) {P : ℕ → ℕ → Type 0} {w w′ w″ end : List ℕ} → Cleared 504 w w′ → Marking P w′ w″ → Kept w″ end → Followed s h h end → Entered s h w end
+entered s h {end = end} c A K F = record {
   len = K .len ∙ A .len ∙ c .len;
   above = λ x l. K .above x l ∙ A .above x l ∙ c .above x l;
-  marks = λ m numbers rule told.
-      let F = followed m numbers rule told in
-      record { sound = F .sound; complete = λ k t l. entries-marked m rule h h end F k t l l };
+  marks = λ m numbers rule told. record { sound = F .sound m numbers rule told; complete = λ k t l. entries-marked s h end F m numbers rule told (suc t) k t (omega arith) l };
 }

@@ -7,7 +7,7 @@ use Prim.Native.Nat.{ℕ, _+_, _*_, _≤_, _<_}
 use lib.ListN.{length, getD}
 use Rattle.model.specs.Sheet.{Module}
 use Rattle.model.specs.WellFormed.{ModuleRule}
-use Rattle.entries.specs.Entry.{Entry, Leads}
+use Rattle.entries.specs.Entry.{Entry}
 use Rattle.layers.specs.declared.Shape.{Shape}
 use Rattle.layers.specs.Step.{period, lists, every}
 use Rattle.layers.specs.Layer.{Told}
@@ -38,6 +38,10 @@ pub record Stride (p q t x : ℕ) : Type 0 where
   pub fits : count * q ≤ p
   pub reached : x ≡ t + count * q
 
+-- from each tick before t at which the mode k is marked, the strides of q in a stay of p ticks, up to the horizon h, are marked of the mode j
+abbrev pub Laid : ℕ → ℕ → ℕ → ℕ → ℕ → ℕ → List ℕ → Type 0
+Laid p q h t k j w = (e x : ℕ) → e < t → marked w k e ≡ true → x ≤ h → Stride p q e x → marked w j x ≡ true
+
 -- the switch of the mode k, begun at tick t, to the mode j, which is below n, is open at tick x, up to the horizon h
 pub record Opens (s : Shape) (h k t n j x : ℕ) : Type 0 where
   pub target : j < n
@@ -63,15 +67,16 @@ pub record Walkable (s : Shape) : Type 0 where
   pub positive : (k : ℕ) → k < s .modes → 1 ≤ period s k
   pub switches : (k j : ℕ) → k < s .modes → j < s .modes → lists s k j ≡ true → 1 ≤ every s k j
 
--- the marks are entries, the first entry is marked, and so is all that an entry before tick n leads to
-pub record Followed (m : Module) (h n : ℕ) (w : List ℕ) : Type 0 where
-  pub sound : (k t : ℕ) → k < length (m .modes) → t ≤ h → marked w k t ≡ true → Entry m k t
-  pub first : marked w 0 0 ≡ true
-  pub closed : (j e k x : ℕ) → e < n → x ≤ h → Entry m j e → Leads m j e k x → marked w k x ≡ true
+-- the walk has come to tick t, and there is room for the marks: whatever a mode that is marked before t leads to is marked
+pub record Walked (s : Shape) (h t : ℕ) (w : List ℕ) : Type 0 where
+  pub room : Room h t w
+  pub closed : (k e j x : ℕ) → k < s .modes → e < t → marked w k e ≡ true → Follows s h k e j x → marked w j x ≡ true
 
--- the same of whichever module the numbers tell
-abbrev pub FollowedBy : Shape → ℕ → ℕ → List ℕ → Type 0
-FollowedBy s h n w = (m : Module) (numbers : List ℕ) → ModuleRule m → Told m s numbers → Followed m h n w
+-- it has come from the first entry: that is marked, and the marks are entries of whichever module the numbers tell
+pub record Followed (s : Shape) (h t : ℕ) (w : List ℕ) : Type 0 where
+  pub walked : Walked s h t w
+  pub first : marked w 0 0 ≡ true
+  pub sound : (m : Module) (numbers : List ℕ) → ModuleRule m → Told m s numbers → (k x : ℕ) → k < length (m .modes) → x ≤ h → marked w k x ≡ true → Entry m k x
 
 -- the numbers behind the rows are as they were
 pub record Kept (w w′ : List ℕ) : Type 0 where

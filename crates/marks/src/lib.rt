@@ -1,11 +1,11 @@
 // At which ticks the modes of a module can be begun.
 ghost use mathlib.Core.Path.{_≡_};
 ghost use mathlib.Core.Bool.{true};
-ghost use Prim.Native.Nat.{_+_, _*_, _/_, _≤_, _<_, min};
+ghost use Prim.Native.Nat.{_+_, _-_, _*_, _/_, _≤_, _<_, min, max};
 ghost use lib.ListN.{length};
 ghost use Rattle.layers.specs.Step.{period, lists, every};
 ghost use Rattle.marks.specs.Marks.{marked};
-ghost use Rattle.marks.specs.Marking.{Marking, Room, Stride, Opens, Follows, Tick, Walkable, FollowedBy, Kept, Entered};
+ghost use Rattle.marks.specs.Marking.{Marking, Room, Stride, Laid, Opens, Follows, Tick, Walkable, Walked, Followed, Kept, Entered};
 use layers::Shape;
 
 // Whether tick t of mode k is marked.
@@ -42,14 +42,26 @@ fn mark_again(bits: &mut [u32], horizon: usize, t: usize, p: u16, k: usize)
     }
 }
 
-// Mode j is begun by a switch of period q, in a stay of p ticks from t on.
-fn mark_switch(bits: &mut [u32], horizon: usize, t: usize, p: u16, q: u16, j: usize)
-    requires { ⌜ (j < 8) × (1 ≤ q) × (Room horizon t (now bits)) ⌝ }
-    ensures { λ _. ⌜ Marking (λ k x. (k ≡ j) × (x ≤ horizon) × (Stride p q t x)) (now (bits .entry)) (now (bits .exit)) ⌝ }
+// The first to be marked of n strides of q from t on: where mode k can be begun a stride earlier too, all but the last are marked.
+fn first_stride(bits: &[u32], t: usize, q: usize, k: usize, n: usize) -> usize
+    requires { ⌜ (k < 8) × (t < 2016) × (504 ≤ length (now bits)) ⌝ }
+    ensures { λ r. ⌜ (1 ≤ r) × (r ≤ max 1 n) × (1 < r → (q ≤ t) × (marked (now (bits .entry)) k (t - q) ≡ true)) ⌝ }
+{
+    if 1 < n && q <= t && is_marked(bits, k, t - q) {
+        n
+    } else {
+        1
+    }
+}
+
+// Mode j is begun by a switch of period q, in a stay of p ticks in mode k from t on.
+fn mark_switch(bits: &mut [u32], horizon: usize, t: usize, p: u16, q: u16, k: usize, j: usize)
+    requires { ⌜ (k < 8) × (j < 8) × (1 ≤ q) × (Room horizon t (now bits)) × (Laid p q horizon t k j (now bits)) ⌝ }
+    ensures { λ _. ⌜ Marking (λ i x. (i ≡ j) × (x ≤ horizon) × (Stride p q t x)) (now (bits .entry)) (now (bits .exit)) ⌝ }
 {
     let step = q as usize;
     let n = lesser(horizon - t, p as usize) / step;
-    let mut i = 1;
+    let mut i = first_stride(bits, t, step, k, n);
     while i <= n {
         mark(bits, j, t + i * step);
         i += 1;
@@ -58,17 +70,17 @@ fn mark_switch(bits: &mut [u32], horizon: usize, t: usize, p: u16, q: u16, j: us
 
 // Mode j, where mode k lists it.
 fn mark_target(bits: &mut [u32], horizon: usize, t: usize, shape: Shape, k: usize, j: usize)
-    requires { ⌜ (k < 8) × (j < 8) × (lists shape k j ≡ true → 1 ≤ every shape k j) × (Room horizon t (now bits)) ⌝ }
+    requires { ⌜ (Walkable shape) × (k < shape .modes) × (j < shape .modes) × (Walked shape horizon t (now bits)) ⌝ }
     ensures { λ _. ⌜ Marking (λ i x. (i ≡ j) × (lists shape k j ≡ true) × (x ≤ horizon) × (Stride (period shape k) (every shape k j) t x)) (now (bits .entry)) (now (bits .exit)) ⌝ }
 {
     let at = 8 * k + j;
     if shape.listed[at] {
-        mark_switch(bits, horizon, t, shape.periods[k], shape.every[at], j);
+        mark_switch(bits, horizon, t, shape.periods[k], shape.every[at], k, j);
     }
 }
 
 fn mark_targets(bits: &mut [u32], horizon: usize, t: usize, shape: Shape, k: usize)
-    requires { ⌜ (Walkable shape) × (k < shape .modes) × (Room horizon t (now bits)) ⌝ }
+    requires { ⌜ (Walkable shape) × (k < shape .modes) × (Walked shape horizon t (now bits)) ⌝ }
     ensures { λ _. ⌜ Marking (Opens shape horizon k t (shape .modes)) (now (bits .entry)) (now (bits .exit)) ⌝ }
 {
     let n = shape.modes;
@@ -81,7 +93,7 @@ fn mark_targets(bits: &mut [u32], horizon: usize, t: usize, shape: Shape, k: usi
 
 // What mode k leads to, where it can be begun at tick t.
 fn mark_mode(bits: &mut [u32], horizon: usize, t: usize, shape: Shape, k: usize)
-    requires { ⌜ (Walkable shape) × (k < shape .modes) × (Room horizon t (now bits)) ⌝ }
+    requires { ⌜ (Walkable shape) × (k < shape .modes) × (Walked shape horizon t (now bits)) ⌝ }
     ensures { λ _. ⌜ Marking (λ j x. (marked (now (bits .entry)) k t ≡ true) × (Follows shape horizon k t j x)) (now (bits .entry)) (now (bits .exit)) ⌝ }
 {
     if is_marked(bits, k, t) {
@@ -91,7 +103,7 @@ fn mark_mode(bits: &mut [u32], horizon: usize, t: usize, shape: Shape, k: usize)
 }
 
 fn mark_tick(bits: &mut [u32], horizon: usize, t: usize, shape: Shape)
-    requires { ⌜ (Walkable shape) × (Room horizon t (now bits)) ⌝ }
+    requires { ⌜ (Walkable shape) × (Walked shape horizon t (now bits)) ⌝ }
     ensures { λ _. ⌜ Marking (Tick shape horizon t (shape .modes) (now (bits .entry))) (now (bits .entry)) (now (bits .exit)) ⌝ }
 {
     let n = shape.modes;
@@ -104,8 +116,8 @@ fn mark_tick(bits: &mut [u32], horizon: usize, t: usize, shape: Shape)
 
 // From the first mark to all marks: those at a tick are made before it is looked at. What begins at the horizon leads beyond it.
 fn follow(bits: &mut [u32], horizon: usize, shape: Shape)
-    requires { ⌜ (Walkable shape) × (Room horizon 0 (now bits)) × (FollowedBy shape horizon 0 (now bits)) ⌝ }
-    ensures { λ _. ⌜ (Kept (now (bits .entry)) (now (bits .exit))) × (FollowedBy shape horizon horizon (now (bits .exit))) ⌝ }
+    requires { ⌜ (Walkable shape) × (Followed shape horizon 0 (now bits)) ⌝ }
+    ensures { λ _. ⌜ (Kept (now (bits .entry)) (now (bits .exit))) × (Followed shape horizon horizon (now (bits .exit))) ⌝ }
 {
     let mut t = 0;
     while t < horizon {

@@ -23,13 +23,13 @@ QuickSums s w = (L : ℕ) → 1 ≤ L → L ≤ s .horizon → look w L ≡ quic
 abbrev pub Kept : List ℕ → List ℕ → Type 0
 Kept w w′ = Within layerFrom workNumbers w w′
 
--- the cells of the tile hold the sums over the first k modules
+-- the cells of the tile hold the sums over the first k modules, each that of the interval of its length before its end
 abbrev pub CellsOf : Sheet → ℕ → ℕ → ℕ → List ℕ → Type 0
 CellsOf s k lo width w =
     (L i : ℕ) → 1 ≤ L → L < lo + width → inQuestion w L ≡ true → i < width
     → look w (cellAt w width L i) ≡ sumOf (λ (m : Module). value m (lo + i - L) (lo + i) first) (take k (s .modules))
 
--- the tile is filled with those sums
+-- the tile is filled with those sums; what is kept is as it was
 pub record Filled (s : Sheet) (k lo width : ℕ) (w w′ : List ℕ) : Type 0 where
   pub kept : Kept w w′
   pub cells : CellsOf s k lo width w′

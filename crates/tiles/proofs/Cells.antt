@@ -34,7 +34,7 @@ module _ (fig w : List ℕ) (row : ℕ) where
 
   module _ (fits : RowFits fig row w) where
     room : from + length fig ≤ length w
-    room = omega (arith, fits .room)
+    room = omega arith
 
     pub row-low : (i : ℕ) → i < length fig → look (midOf from (from + length fig - from) w) i + look fig i < 2 ^ 32
     row-low i h =
@@ -103,10 +103,10 @@ module _ (s : Shape) (numbers : List ℕ) (lo width : ℕ) (w : List ℕ) where
         last = let next : rows w (n + 1) ≡ rows w n + 1 = rw asked at (rows-next w n) in omega (arith, rows-up w (n + 1) (pred (lo + width)) (omega arith))
 
         room : cellsFrom + (row * width + width) ≤ length w′
-        room = rw e (omega (arith, tile .room, tile .memory, done .within .len, add-mul (rows w n) 1 width, mul-le-mul-right width last))
+        room = rw e (omega (arith, done .within .len, add-mul (rows w n) 1 width, mul-le-mul-right width last))
 
         few : (i : ℕ) → i < width → look fig i ≤ 32000
-        few i l = figures-bound (t .owner) (t .rule) lo (n + 1) fig (on .each (t .owner) (t .rule) (t .told) .figures) (omega (arith, size, tile .ends)) i (omega (arith, size))
+        few i l = figures-bound (t .owner) (t .rule) lo (n + 1) fig (on .each (t .owner) (t .rule) (t .told) .figures) (omega (arith, size)) i (omega (arith, size))
 
         below : (i : ℕ) → i < width → look w′ (cellsFrom + (row * width + i)) + look fig i < 2 ^ 32
         below i l = rw (place i, fresh i) (omega (arith, few i l, low (n + 1) i (omega arith) (omega arith) asked l))

@@ -20,7 +20,7 @@ part-look a p w d h = getD-take p (drop a w) d 0 h ∙ getD-drop a w d 0
 module _ {a e : ℕ} {w w′ : List ℕ} (rest : Within a e w w′) where
   part-same : (b p : ℕ) → ((d : ℕ) → d < p → look w′ (b + d) ≡ look w (b + d)) → part b p w′ ≡ part b p w
   part-same b p same =
-      ext-getD 0 (part b p w′) (part b p w) (simp (length-take, length-drop) (omega (arith, rest .len)))
+      ext-getD 0 (part b p w′) (part b p w) (simp (length-take, length-drop) (omega arith))
       (λ d h. let l : d < p = omega (arith, length-take p (drop b w′)) in part-look b p w′ d l ∙ same d l ∙ sym (part-look b p w d l))
 
   -- a part before what has changed, and one behind it

@@ -28,11 +28,11 @@ module _ (w w′ : List ℕ) (same : (x : ℕ) → x ≤ 2000 → look w′ x �
 
   pub tile-same : (lo width : ℕ) → length w′ ≡ length w → Tile w lo width → Tile w′ lo width
   tile-same lo width e t = record {
-    memory = omega (arith, t .memory);
+    memory = omega arith;
     first = t .first;
     few = t .few;
     ends = t .ends;
-    room = rw (rows-same (pred (lo + width)) (omega (arith, t .ends))) (t .room);
+    room = rw (rows-same (pred (lo + width)) (omega arith)) (t .room);
   }
 
 module _ (w : List ℕ) where

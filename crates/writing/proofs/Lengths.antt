@@ -23,7 +23,7 @@ pub exact-clear-length : length (exactLine Exact.clear) ≡ 12
 unfolding exactLine
 exact-clear-length = refl
 
--- Where numbers have at most j digits, and the last of a line at most k.
+-- Where numbers have at most j digits, and the last of a line at most k. So with 3 and 4 a sheet's line has at most 64 bytes.
 module _ (j k : ℕ) (some : 1 ≤ j) (more : 1 ≤ k) where
   pub refused-length : (n p : ℕ) → n < 10 ^ j → p < 10 ^ k → length (refusedLine n p) ≤ 13 + (j + k)
   unfolding refusedLine
@@ -33,16 +33,7 @@ module _ (j k : ℕ) (some : 1 ≤ j) (more : 1 ≤ k) where
       → length (sheetLineOf modules modes tasks switches horizon) ≤ 48 + (4 * j + k)
   unfolding sheetLineOf
   sheet-length modules modes tasks switches horizon g h i l m =
-      simp length-append (
-      omega (
-        arith,
-        decimal-length modules j g some,
-        decimal-length modes j h some,
-        decimal-length tasks j i some,
-        decimal-length switches j l some,
-        decimal-length horizon k m more,
-      )
-      )
+      simp length-append (omega (arith, decimal-length modules j g some, decimal-length modes j h some, decimal-length tasks j i some, decimal-length switches j l some, decimal-length horizon k m more))
 
   pub quick-length : (L v : ℕ) → L < 10 ^ j → v < 10 ^ k → length (quickLine (Quick.over L v)) ≤ 20 + (j + k)
   unfolding quickLine

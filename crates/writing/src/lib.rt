@@ -7,6 +7,7 @@ ghost use Rattle.lines.specs.Decimal.{digit, decimal};
 ghost use Rattle.lines.specs.Lines.{ascii, refusedLine, quickLine, exactLine, runLine};
 ghost use Rattle.writing.specs.Writing.{Put, OneDigitEach, sheetLineOf};
 
+// One byte.
 fn put_byte(out: &mut [u8], at: usize, byte: u8) -> usize
     requires { ⌜ at < count (now out) ⌝ }
     ensures { λ r. ⌜ Put at r (byte ∷ []) (now (out .entry)) (now (out .exit)) ⌝ }
@@ -15,6 +16,7 @@ fn put_byte(out: &mut [u8], at: usize, byte: u8) -> usize
     at + 1
 }
 
+// The digit of a number below 10.
 fn put_digit(out: &mut [u8], at: usize, n: usize) -> usize
     requires { ⌜ (at < count (now out)) × (n < 10) ⌝ }
     ensures { λ r. ⌜ Put at r (digit n ∷ []) (now (out .entry)) (now (out .exit)) ⌝ }
@@ -22,6 +24,7 @@ fn put_digit(out: &mut [u8], at: usize, n: usize) -> usize
     put_byte(out, at, 48 + n as u8)
 }
 
+// Bytes as they stand.
 fn put_bytes(out: &mut [u8], at: usize, bytes: &[u8]) -> usize
     requires { ⌜ at + count (now bytes) ≤ count (now out) ⌝ }
     ensures { λ r. ⌜ Put at r (now (bytes .entry)) (now (out .entry)) (now (out .exit)) ⌝ }
@@ -49,7 +52,7 @@ fn put_digits(out: &mut [u8], at: usize, tape: &[u8]) -> usize
     next
 }
 
-// The digits of the tenth part of n, and then the last one.
+// The digits of the tenth part of n, and then the last one. There are at most 20.
 fn put_decimal(out: &mut [u8], at: usize, n: usize) -> usize
     requires { ⌜ at + count (decimal n) ≤ count (now out) ⌝ }
     ensures { λ r. ⌜ Put at r (decimal n) (now (out .entry)) (now (out .exit)) ⌝ }
@@ -80,6 +83,7 @@ fn put_end(out: &mut [u8], at: usize, first: &[u8], n: usize, second: &[u8], m: 
     put_byte(out, next, b'\n')
 }
 
+// A refusal, with its number and place.
 pub fn refused_line(out: &mut [u8], at: usize, number: u8, place: usize) -> usize
     requires { ⌜ at + count (refusedLine number place) ≤ count (now out) ⌝ }
     ensures { λ r. ⌜ Put at r (refusedLine number place) (now (out .entry)) (now (out .exit)) ⌝ }
@@ -87,6 +91,7 @@ pub fn refused_line(out: &mut [u8], at: usize, number: u8, place: usize) -> usiz
     put_end(out, at, b"refused ", number as usize, b" at ", place)
 }
 
+// What a sheet has of each kind, and its horizon.
 pub fn sheet_line(
     out: &mut [u8],
     at: usize,
@@ -112,6 +117,7 @@ pub fn sheet_line(
     )
 }
 
+// The quick test says clear.
 pub fn quick_clear_line(out: &mut [u8], at: usize) -> usize
     requires { ⌜ at + count (quickLine Quick.clear) ≤ count (now out) ⌝ }
     ensures { λ r. ⌜ Put at r (quickLine Quick.clear) (now (out .entry)) (now (out .exit)) ⌝ }
@@ -119,6 +125,7 @@ pub fn quick_clear_line(out: &mut [u8], at: usize) -> usize
     put_bytes(out, at, b"quick clear\n")
 }
 
+// The quick test says over: the smallest such length, and its demand.
 pub fn quick_over_line(out: &mut [u8], at: usize, length: u32, demand: u32) -> usize
     requires { ⌜ at + count (quickLine (Quick.over length demand)) ≤ count (now out) ⌝ }
     ensures { λ r. ⌜ Put at r (quickLine (Quick.over length demand)) (now (out .entry)) (now (out .exit)) ⌝ }
@@ -133,6 +140,7 @@ pub fn quick_over_line(out: &mut [u8], at: usize, length: u32, demand: u32) -> u
     )
 }
 
+// The exact test says clear.
 pub fn exact_clear_line(out: &mut [u8], at: usize) -> usize
     requires { ⌜ at + count (exactLine Exact.clear) ≤ count (now out) ⌝ }
     ensures { λ r. ⌜ Put at r (exactLine Exact.clear) (now (out .entry)) (now (out .exit)) ⌝ }
@@ -140,6 +148,7 @@ pub fn exact_clear_line(out: &mut [u8], at: usize) -> usize
     put_bytes(out, at, b"exact clear\n")
 }
 
+// The exact test says over: the interval, and its demand.
 pub fn exact_over_line(out: &mut [u8], at: usize, start: u32, end: u32, demand: u32) -> usize
     requires { ⌜ at + count (exactLine (Exact.over start end demand)) ≤ count (now out) ⌝ }
     ensures { λ r. ⌜ Put at r (exactLine (Exact.over start end demand)) (now (out .entry)) (now (out .exit)) ⌝ }
@@ -148,6 +157,7 @@ pub fn exact_over_line(out: &mut [u8], at: usize, start: u32, end: u32, demand: 
     put_end(out, next, b" ", end as usize, b" demand ", demand as usize)
 }
 
+// The number and the tape of a module.
 pub fn run_line(out: &mut [u8], at: usize, k: u32, tape: &[u8]) -> usize
     requires { ⌜ (at + count (runLine k (now tape)) ≤ count (now out)) × (OneDigitEach (now tape)) ⌝ }
     ensures { λ r. ⌜ Put at r (runLine k (now (tape .entry))) (now (out .entry)) (now (out .exit)) ⌝ }

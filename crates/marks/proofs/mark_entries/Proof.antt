@@ -1,5 +1,4 @@
 -- `mark_entries` clears the rows, marks the first entry and follows it to the horizon. Assumes nothing.
-use native.Mathlib.Omega.{arith}
 use borrow.Author.Needs.{needs}
 use Rattle.marks.proofs.Walk.{followed-start, entered}
 use Rattle.marks.proofs.mark_entries.Statement.{statement}
@@ -12,7 +11,9 @@ mark-requires : tie.Need-mark-requires
 mark-requires c κs = search needs
 
 follow-requires : tie.Need-follow-requires
-follow-requires c κs = (c .before .before .before .before .before .before .before .before .before .before .pre .2, record { within = omega arith; most = c .before .before .before .before .before .before .before .before .before .before .pre .0; numbers = omega (arith, c .before .before .before .mark .ensures .len, c .before .before .before .before .before .before .before .clear .ensures .len) }, followed-start _ _ (c .before .before .before .before .before .before .before .before .before .before .pre .0) _ _ _ (c .before .before .before .before .before .before .before .clear .ensures) (c .before .before .before .mark .ensures))
+follow-requires c κs =
+    let pre = c .before .before .before .before .before .before .before .before .before .before .pre in
+    (pre .2, followed-start _ _ _ _ _ (pre .0) (pre .1) (c .before .before .before .before .before .before .before .clear .ensures) (c .before .before .before .mark .ensures))
 
 same-length : tie.Need-same-length
 same-length c = search needs

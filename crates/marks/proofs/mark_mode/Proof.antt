@@ -1,7 +1,8 @@
 -- `mark_mode` marks what mode k leads to, where it is marked at tick t. Assumes nothing.
 use mathlib.Core.Path.{sym, _∙_}
+use native.Mathlib.Omega.{arith}
 use borrow.Author.Needs.{needs}
-use Rattle.marks.proofs.Markings.{marking-off, mode-on}
+use Rattle.marks.proofs.Markings.{marking-off, mode-on, walked-kept}
 use Rattle.marks.proofs.mark_mode.Statement.{statement}
 use Rattle.marks.proofs.mark_mode.Tie as tie
 
@@ -18,7 +19,9 @@ mark-again-requires : tie.Need-mark-again-requires
 mark-again-requires c κs = search needs
 
 mark-targets-requires : tie.Need-mark-targets-requires
-mark-targets-requires c κs = search needs
+mark-targets-requires c κs =
+    let pre = c .before .before .before .before .before .before .before .before .before .before .pre in
+    (pre .0, pre .1, walked-kept _ (pre .0) (λ j x e. omega (arith, e .1)) (c .before .before .before .mark-again .ensures) (pre .2))
 
 same-length : tie.Need-same-length
 same-length c = search needs

@@ -9,10 +9,10 @@ use Rattle.marks.proofs.mark_switch.Statement.{statement}
 use Rattle.marks.proofs.mark_switch.Tie as tie
 
 abbrev Inv-loop : tie.InvT-loop
-Inv-loop bits₀ horizon t p q j step n i₀ bits i = Marking (λ k x. (k ≡ j) × Sofar q t i x) bits₀ bits × (1 ≤ i) × (i ≤ n + 1) × (n ≡ min (horizon - t) p / q)
+Inv-loop bits₀ horizon t p q k j step n i₀ bits i = Marking (λ l x. (l ≡ j) × Sofar q t i x) bits₀ bits × (1 ≤ i) × (i ≤ n + 1) × (n ≡ min (horizon - t) p / q)
 
 abbrev μ-loop : tie.MeasureT-loop
-μ-loop bits₀ horizon t p q j step n i₀ bits i = n + 1 - i
+μ-loop bits₀ horizon t p q k j step n i₀ bits i = n + 1 - i
 
 sub-lesser : tie.Need-sub-lesser Inv-loop μ-loop
 sub-lesser c = search needs
@@ -23,8 +23,15 @@ lesser-requires c κs = search needs
 div-n : tie.Need-div-n Inv-loop μ-loop
 div-n c = search needs
 
+first-stride-requires : tie.Need-first-stride-requires Inv-loop μ-loop
+first-stride-requires c κs = search needs
+
 loop-holds : tie.Need-loop-holds Inv-loop μ-loop
-loop-holds c = (switch-start _ _ _ _, omega arith, omega arith, ap (λ (x : ℕ). x / c .before .before .args .q) (c .lesser .ensures))
+loop-holds c =
+    let a = c .before .before .before .before in
+    let n = ap (λ (x : ℕ). x / a .args .q) (c .before .before .lesser .ensures) in
+    let r = c .first-stride .ensures in
+    (switch-start _ _ _ (a .args .horizon) (a .args .p) (a .args .k) _ _ _ (a .pre .2) n (a .pre .4) (r .1) (r .2), r .0, omega (arith, r .1), n)
 
 mul-mark : tie.Need-mul-mark Inv-loop μ-loop
 mul-mark c = record { fits = omega (arith, stride-fits _ _ _ _ (c .before .before .loop .inv .3) (c .before .loop-test .taken)) }
@@ -59,6 +66,7 @@ mark-switch-spec =
     sub-lesser
     lesser-requires
     div-n
+    first-stride-requires
     loop-holds
     mul-mark
     add-mark

@@ -1,6 +1,7 @@
 -- `mark_target` marks the strides of the switch from mode k to mode j, where it is listed. Assumes nothing.
 use native.Mathlib.Omega.{arith}
 use borrow.Author.Needs.{needs}
+use Rattle.marks.specs.Marking.{switched}
 use Rattle.marks.proofs.Markings.{marking-as, marking-off}
 use Rattle.marks.proofs.mark_target.Statement.{statement}
 use Rattle.marks.proofs.mark_target.Tie as tie
@@ -27,7 +28,10 @@ element-copy-out-mark-switch-2 : tie.Need-element-copy-out-mark-switch-2
 element-copy-out-mark-switch-2 c = search needs
 
 mark-switch-requires : tie.Need-mark-switch-requires
-mark-switch-requires c κs = (omega arith, c .before .before .before .before .before .before .pre .2 (c .before .before .before .if1 .taken), c .before .before .before .before .before .before .pre .3)
+mark-switch-requires c κs =
+    let pre = c .before .before .before .before .before .before .pre in
+    let on = c .before .before .before .if1 .taken in
+    (omega (arith, pre .0 .few), omega (arith, pre .0 .few), pre .0 .switches _ _ (pre .1) (pre .2) on, pre .3 .room, λ e x l o i r. pre .3 .closed _ e _ x (pre .1) l o (switched (record { target = pre .2; listed = on; within = i; stride = r })))
 
 same-length : tie.Need-same-length
 same-length c = search needs

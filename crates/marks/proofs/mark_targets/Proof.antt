@@ -3,7 +3,7 @@ use Prim.Native.Nat.{_-_, _≤_}
 use native.Mathlib.Omega.{arith}
 use borrow.Author.Needs.{needs}
 use Rattle.marks.specs.Marking.{Marking, Opens}
-use Rattle.marks.proofs.Markings.{marking-at, room-kept, targets-none, targets-more}
+use Rattle.marks.proofs.Markings.{marking-at, walked-kept, targets-none, targets-more}
 use Rattle.marks.proofs.mark_targets.Statement.{statement}
 use Rattle.marks.proofs.mark_targets.Tie as tie
 
@@ -17,7 +17,9 @@ loop-holds : tie.Need-loop-holds Inv-loop μ-loop
 loop-holds c = (omega arith, targets-none _ _ _ _ _)
 
 mark-target-requires : tie.Need-mark-target-requires Inv-loop μ-loop
-mark-target-requires c κs = (omega (arith, c .before .before .before .before .pre .0 .few), omega (arith, c .before .before .before .before .pre .0 .few), c .before .before .before .before .pre .0 .switches _ _ (c .before .before .before .before .pre .1) (c .before .loop-test .taken), room-kept (c .before .before .loop .inv .1 .len) (c .before .before .before .before .pre .2))
+mark-target-requires c κs =
+    let pre = c .before .before .before .before .pre in
+    (pre .0, pre .1, c .before .loop-test .taken, walked-kept _ (pre .0) (λ i x o. omega (arith, o .stride .reached)) (c .before .before .loop .inv .1) (pre .2))
 
 add-j : tie.Need-add-j Inv-loop μ-loop
 add-j c = search needs

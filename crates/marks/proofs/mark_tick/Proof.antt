@@ -3,7 +3,7 @@ use Prim.Native.Nat.{_-_, _≤_}
 use native.Mathlib.Omega.{arith}
 use borrow.Author.Needs.{needs}
 use Rattle.marks.specs.Marking.{Marking, Tick}
-use Rattle.marks.proofs.Markings.{marking-at, room-kept, tick-none, tick-more}
+use Rattle.marks.proofs.Markings.{marking-at, walked-kept, tick-later, tick-none, tick-more}
 use Rattle.marks.proofs.mark_tick.Statement.{statement}
 use Rattle.marks.proofs.mark_tick.Tie as tie
 
@@ -17,7 +17,9 @@ loop-holds : tie.Need-loop-holds Inv-loop μ-loop
 loop-holds c = (omega arith, tick-none _ _ _ (c .before .pre .0) (omega arith) _)
 
 mark-mode-requires : tie.Need-mark-mode-requires Inv-loop μ-loop
-mark-mode-requires c κs = (c .before .before .before .before .pre .0, c .before .loop-test .taken, room-kept (c .before .before .loop .inv .1 .len) (c .before .before .before .before .pre .1))
+mark-mode-requires c κs =
+    let pre = c .before .before .before .before .pre in
+    (pre .0, c .before .loop-test .taken, walked-kept _ (pre .0) (λ j x a. omega (arith, tick-later _ _ _ (pre .0) _ _ (omega arith) j x a)) (c .before .before .loop .inv .1) (pre .1))
 
 add-k : tie.Need-add-k Inv-loop μ-loop
 add-k c = search needs
@@ -26,7 +28,7 @@ loop-less : tie.Need-loop-less Inv-loop μ-loop
 loop-less c = search needs
 
 loop-again : tie.Need-loop-again Inv-loop μ-loop
-loop-again c = (omega arith, tick-more _ _ _ (c .before .before .before .before .before .before .before .pre .0) (omega (arith, c .before .before .before .before .before .before .before .pre .1)) _ (c .before .before .before .before .loop-test .taken) (c .before .before .before .before .before .loop .inv .1) (c .before .before .mark-mode .ensures))
+loop-again c = (omega arith, tick-more _ _ _ (c .before .before .before .before .before .before .before .pre .0) (omega (arith, c .before .before .before .before .before .before .before .pre .1 .room)) _ (c .before .before .before .before .loop-test .taken) (c .before .before .before .before .before .loop .inv .1) (c .before .before .mark-mode .ensures))
 
 same-length : tie.Need-same-length Inv-loop μ-loop
 same-length c = search needs

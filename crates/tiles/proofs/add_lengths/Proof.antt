@@ -21,10 +21,10 @@ abbrev μ-loop : tie.MeasureT-loop
 μ-loop work₀ fig₀ lo shape numbers last row₀ l₀ work fig row l = last - l
 
 add-last : tie.Need-add-last Inv-loop μ-loop
-add-last c = omega (arith, c .before .before .before .pre .0 .ends)
+add-last c = search needs
 
 sub-last : tie.Need-sub-last Inv-loop μ-loop
-sub-last c = omega (arith, c .before .before .before .pre .0 .first)
+sub-last c = search needs
 
 loop-holds : tie.Need-loop-holds Inv-loop μ-loop
 loop-holds c = let s = c .before .before .before in (omega (arith, rows-most (s .args .work .now) 0), omega arith, refl, module-start _ _ _ _ _, s .pre .3)
@@ -33,10 +33,10 @@ next-figures-requires : tie.Need-next-figures-requires Inv-loop μ-loop
 next-figures-requires c κs =
     let p = c .before .before .before .before .before .before .before .pre in
     let j = c .before .before .before .loop .inv in
-    (omega (arith, p .0 .ends), omega (arith, p .0 .memory, j .3 .within .len), omega (arith, p .0 .ends, j .2), p .2, j .4)
+    (omega arith, omega arith, omega arith, p .2, j .4)
 
 add-add-row : tie.Need-add-add-row Inv-loop μ-loop
-add-add-row c = omega (arith, c .before .before .before .before .before .before .before .before .before .before .before .before .before .before .pre .0 .ends)
+add-add-row c = search needs
 
 add-row-requires : tie.Need-add-row-requires Inv-loop μ-loop
 add-row-requires c κs =
@@ -44,15 +44,15 @@ add-row-requires c κs =
     let p = s .pre in
     let l = c .before .before .before .before .before .before .before .before .before .before .loop in
     let new = c .before .before .before .before .before .before .next-figures .ensures in
-    let short : l .l < 2000 = omega (arith, p .0 .ends) in (
+    let short : l .l < 2000 = omega arith in (
       omega arith,
-      omega (arith, rows-most (s .args .work .now) (l .l), l .inv .0),
-      omega (arith, p .0 .memory, l .inv .3 .within .len, new .within .len),
+      omega (arith, rows-most (s .args .work .now) (l .l)),
+      omega arith,
       row-fits _ _ _ _ _ _ _ _ _ _ (l .inv .3) new (l .inv .2) short _ (l .inv .0) (p .2) (p .0) (p .1) (omega arith),
     )
 
 add-l : tie.Need-add-l Inv-loop μ-loop
-add-l c = omega (arith, c .before .before .before .before .before .before .before .before .before .before .before .before .before .before .before .before .before .pre .0 .ends)
+add-l c = search needs
 
 loop-less : tie.Need-loop-less Inv-loop μ-loop
 loop-less c = search needs
@@ -62,7 +62,7 @@ loop-again c =
     let l = c .before .before .before .before .before .before .before .before .before .before .before .before .before .loop in
     let new = c .before .before .before .before .before .before .before .before .before .next-figures .ensures in
     let row = c .before .before .add-row .ensures in
-    let short : l .l < 2000 = omega (arith, c .before .before .before .before .before .before .before .before .before .before .before .before .before .before .before .before .before .pre .0 .ends) in
+    let short : l .l < 2000 = omega arith in
     let more = module-more _ _ _ _ _ _ _ _ _ _ (l .inv .3) new (l .inv .2) short _ (l .inv .0) _ _ row in
     (more .0, omega arith, new .size ∙ l .inv .2, more .1, λ m ok told. progress-kept (omega arith) (row .within) (new .each m ok told))
 

@@ -18,7 +18,7 @@ sub-begin c = search needs
 begin-requires : tie.Need-begin-requires
 begin-requires c κs =
     let p = c .before .before .before .pre in
-    (omega (arith, p .0 .ends), p .0 .memory, told-walkable _ _ _ (p .2 .rule) (p .2 .told), told-states _ _ (p .2))
+    (omega arith, p .0 .memory, told-walkable _ _ _ (p .2 .rule) (p .2 .told), told-states _ _ (p .2))
 
 sub-add-lengths : tie.Need-sub-add-lengths
 sub-add-lengths c = search needs
@@ -37,7 +37,7 @@ add-lengths-requires c κs =
       rw size (tile-same _ _ (λ x h. begun .within .below x (omega arith)) _ _ (begun .within .len) (p .0)),
       rw size (fit-begun _ _ _ _ (begun .within) (p .0 .ends) (p .1)),
       p .2,
-      progress-start _ (p .0 .few) _ _ _ _ _ _ (omega (arith, p .0 .first)) begun,
+      progress-start _ (p .0 .few) _ _ _ _ _ _ (omega arith) begun,
     )
 
 same-length : tie.Need-same-length

@@ -19,16 +19,16 @@ returns : tie.Need-returns
 returns c = row-none _ _ _ _ (c .if1 .taken)
 
 mul-from : tie.Need-mul-from
-mul-from c = let f = c .before .before .before .before .pre .3 (lt-ltb _ _ (c .if1 .left)) in omega (arith, f .room)
+mul-from c = omega (arith, c .before .before .before .before .pre .3 (lt-ltb _ _ (c .if1 .left)) .room)
 
 add-from : tie.Need-add-from
-add-from c = let f = c .before .before .before .before .pre .3 (lt-ltb _ _ (c .if1 .left)) in omega (arith, f .room)
+add-from c = omega (arith, c .before .before .before .before .pre .3 (lt-ltb _ _ (c .if1 .left)) .room)
 
 add-to : tie.Need-add-to
-add-to c = let f = c .before .before .before .before .pre .3 (lt-ltb _ _ (c .if1 .left)) in omega (arith, f .room)
+add-to c = omega (arith, c .before .before .before .before .pre .3 (lt-ltb _ _ (c .if1 .left)) .room)
 
 mul-add-figures : tie.Need-mul-add-figures
-mul-add-figures c = let f = c .before .before .before .before .pre .3 (lt-ltb _ _ (c .if1 .left)) in omega (arith, f .room)
+mul-add-figures c = omega (arith, c .before .before .before .before .pre .3 (lt-ltb _ _ (c .if1 .left)) .room)
 
 sub-add-figures : tie.Need-sub-add-figures
 sub-add-figures c = search needs
@@ -37,7 +37,7 @@ part-add-figures-start : tie.Need-part-add-figures-start
 part-add-figures-start c = search needs
 
 part-add-figures-end : tie.Need-part-add-figures-end
-part-add-figures-end c = let f = c .before .before .before .before .pre .3 (lt-ltb _ _ (c .if1 .left)) in omega (arith, f .room)
+part-add-figures-end c = omega (arith, c .before .before .before .before .pre .3 (lt-ltb _ _ (c .if1 .left)) .room)
 
 add-figures-requires : tie.Need-add-figures-requires
 add-figures-requires c κs = let f = c .before .before .before .before .before .pre .3 (lt-ltb _ _ (c .before .if1 .left)) in (omega (arith, f .room), row-low _ _ _ f)
