@@ -20,7 +20,8 @@ use Rattle.figures.proofs.Offered.{not-both}
 use Rattle.figures.proofs.Tiles.{figures-bound}
 use Rattle.cells.specs.Cells.{layerFrom, cellsFrom, inQuestion, rows, cellAt, Tile}
 use Rattle.tiles.specs.Tiles.{Within, Progressed, RowFits, RowAdded, CellsFit, ModuleAdded}
-use Rattle.tiles.proofs.Rows.{question-same, rows-same, cell-same, rows-next, rows-up, cell-before}
+use Rattle.cells.proofs.Rows.{rows-more, rows-grow}
+use Rattle.tiles.proofs.Rows.{question-same, rows-same, cell-same, cell-before}
 use Rattle.tiles.proofs.Parts.{part-look, within-none, within-wider, within-then, put-within, put-part}
 
 -- One row.
@@ -100,7 +101,7 @@ module _ (s : Shape) (numbers : List ℕ) (lo width : ℕ) (w : List ℕ) where
         asked = sym question ∙ q
 
         last : rows w n + 1 ≤ rows w (pred (lo + width))
-        last = let next : rows w (n + 1) ≡ rows w n + 1 = rw asked at (rows-next w n) in omega (arith, rows-up w (n + 1) (pred (lo + width)) (omega arith))
+        last = let next : rows w (n + 1) ≡ rows w n + 1 = rw asked at (rows-more w n) in omega (arith, rows-grow w (n + 1) (pred (lo + width)) (omega arith))
 
         room : cellsFrom + (row * width + width) ≤ length w′
         room = rw e (omega (arith, done .within .len, add-mul (rows w n) 1 width, mul-le-mul-right width last))
@@ -115,13 +116,13 @@ module _ (s : Shape) (numbers : List ℕ) (lo width : ℕ) (w : List ℕ) where
     module-more r w″ new = (next, record { cells = cells; within = within })
       where
         next : r ≡ rows w (n + 1)
-        next = new .next ∙ rw (question, e) (sym (rows-next w n))
+        next = new .next ∙ rw (question, e) (sym (rows-more w n))
 
         rest : Within (cellsFrom + rows w n * width) (cellsFrom + rows w (n + 1) * width) w′ w″
         rest = rw (size, e, next) at (new .within)
 
         up : rows w n * width ≤ rows w (n + 1) * width
-        up = mul-le-mul-right width (rows-up w n (n + 1) (omega arith))
+        up = mul-le-mul-right width (rows-grow w n (n + 1) (omega arith))
 
         within : Within layerFrom (cellsFrom + rows w (n + 1) * width) w w″
         within = within-then (within-wider (done .within) _ _ (omega arith) (omega (arith, up))) (within-wider rest _ _ (omega arith) (omega arith))

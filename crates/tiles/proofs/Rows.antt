@@ -1,17 +1,15 @@
 -- The rows of the lengths in question: the sums alone decide them, and they stand one behind another. Assumes nothing.
 use mathlib.Core.Path.{_≡_, refl, ap}
-use mathlib.Core.Bool.{Bool, true, false}
+use mathlib.Core.Bool.{true}
 use mathlib.Core.List.{List}
 use Prim.Native.Nat.{ℕ, zero, suc, pred, _+_, _*_, _≤_, _<_}
 use native.Mathlib.Nat.{add-mul, mul-le-mul-right}
-use native.Mathlib.Numerals.{add-one}
-use native.Mathlib.Decide.{decLe}
 use native.Mathlib.Omega.{arith}
 use lib.Dec.{ltb}
 use lib.ListN.{length}
-use Rattle.model.specs.Lists.{when}
 use Rattle.layers.specs.Step.{look}
 use Rattle.cells.specs.Cells.{cellsFrom, inQuestion, rows, cellAt, Tile}
+use Rattle.cells.proofs.Rows.{rows-before}
 
 -- two memories with the same sums
 module _ (w w′ : List ℕ) (same : (x : ℕ) → x ≤ 2000 → look w′ x ≡ look w x) where
@@ -36,32 +34,6 @@ module _ (w w′ : List ℕ) (same : (x : ℕ) → x ≤ 2000 → look w′ x �
   }
 
 module _ (w : List ℕ) where
-  pub rows-next : (n : ℕ) → rows w (n + 1) ≡ rows w n + when (inQuestion w (n + 1)) 1
-  unfolding rows
-  rows-next n = rw (add-one n)
-
-  pub rows-up : (a b : ℕ) → a ≤ b → rows w a ≤ rows w b
-  unfolding rows
-  rows-up a zero h = let e : a ≡ 0 = omega arith in rw e (omega arith)
-  rows-up a (suc b) h = pick (rows-up a b) (decLe a b)
-    where
-      pick : (a ≤ b → rows w a ≤ rows w b) → Dec (a ≤ b) → rows w a ≤ rows w (suc b)
-      pick before (yes l) = omega (arith, before l)
-      pick before (no l) = let e : a ≡ suc b = omega arith in rw e (omega arith)
-
-  pub rows-most : (n : ℕ) → rows w n ≤ n
-  unfolding rows
-  rows-most zero = omega arith
-  rows-most (suc n) = omega (arith, rows-most n, one (inQuestion w (suc n)))
-    where
-      one : (b : Bool) → when b 1 ≤ 1
-      one true = omega arith
-      one false = omega arith
-
   -- the cells of a length in question stand before the rows of the lengths after it
   pub cell-before : (width L n i : ℕ) → 1 ≤ L → L ≤ n → inQuestion w L ≡ true → i < width → cellAt w width L i < cellsFrom + rows w n * width
-  cell-before width L n i some h q l =
-      let e : pred L + 1 ≡ L = omega arith in
-      let next : rows w L ≡ rows w (pred L) + 1 = rw q at (rw e at (rows-next (pred L))) in
-      let up : rows w (pred L) + 1 ≤ rows w n = omega (arith, rows-up L n h) in
-      omega (arith, add-mul (rows w (pred L)) 1 width, mul-le-mul-right width up)
+  cell-before width L n i some h q l = omega (arith, add-mul (rows w (pred L)) 1 width, mul-le-mul-right width (rows-before w L some n h q))

@@ -8,7 +8,7 @@ use borrow.Author.Needs.{needs}
 use Rattle.layers.specs.Layer.{Each}
 use Rattle.cells.specs.Cells.{rows}
 use Rattle.tiles.specs.Tiles.{Progress, ModuleAdded}
-use Rattle.tiles.proofs.Rows.{rows-most}
+use Rattle.cells.proofs.Rows.{rows-most}
 use Rattle.tiles.proofs.Steps.{progress-kept}
 use Rattle.tiles.proofs.Cells.{module-start, module-at, row-fits, module-more}
 use Rattle.tiles.proofs.add_lengths.Statement.{statement}
