@@ -1,0 +1,37 @@
+-- A refusal has its own number, and a demand stands above the lowest byte. Assumes nothing.
+use borrow.Author.Needs.{needs}
+use Rattle.checker.proofs.demand_number.Statement.{statement}
+use Rattle.checker.proofs.demand_number.Tie as tie
+
+enum-known-answer : tie.Need-enum-known-answer
+enum-known-answer c = search needs
+
+refused-requires : tie.Need-refused-requires
+refused-requires c κs = rw (c .before .answer .given .1) at (c .before .before .before .pre)
+
+enum-known-answer-2 : tie.Need-enum-known-answer-2
+enum-known-answer-2 c = search needs
+
+cast-result : tie.Need-cast-result
+cast-result c = search needs
+
+mul-result : tie.Need-mul-result
+mul-result c = search needs
+
+returns : tie.Need-returns
+returns c = rw (c .before .before .answer .given .1) (c .refused .ensures)
+
+returns-2 : tie.Need-returns-2
+returns-2 c = rw (c .before .before .answer2 .given .1)
+
+pub demand-number-spec : {M : Type 1} → statement M
+demand-number-spec =
+    tie.close
+    (tie.spec
+    enum-known-answer
+    refused-requires
+    enum-known-answer-2
+    cast-result
+    mul-result
+    returns
+    returns-2)
