@@ -46,10 +46,6 @@
 //! 11. The tapes have b bytes each, each byte the mode's number as a value
 //!     (not a digit); the report alone turns them into digits.
 //! 12. Every line of the report, `refused N at P` too, ends with one newline.
-//! 13. Case I names a table of the source that the paper does not print. The
-//!     test of that case uses a system of the shape the paper tells (two
-//!     modules, one switch in module 0, two in module 1 between modes of
-//!     periods 4 and 8, a task of LET 1 in each module), not the table itself.
 
 pub mod brute;
 pub mod generate;

@@ -19,7 +19,7 @@ fn task((offset, cost, let_ticks, period): (u16, u16, u16, u16)) -> Task {
     Task { offset, cost, let_ticks, period }
 }
 
-/// A mode with one task or none, and switches (target, period).
+/// A mode with tasks in the paper's order of fields, and switches (target, period).
 fn mode(period: u16, tasks: &[(u16, u16, u16, u16)], switches: &[(u16, u16)]) -> Mode {
     Mode {
         period,
@@ -166,23 +166,26 @@ fn case_h() {
     assert_eq!(refused(&[]), (1, 0));
 }
 
-/// A system of the shape case I tells; the table it names is the source's.
+/// At any horizon the quick test is over at once.
 #[test]
-fn case_i_shape() {
+fn case_i() {
     for horizon in [1, 2, 3, 4, 7, 8, 12] {
-        assert_eq!(both(&shape_of_i(horizon)).0, Quick::Over { length: 1, demand: 2 });
+        assert_eq!(both(&table_1(horizon)).0, Quick::Over { length: 1, demand: 2 });
     }
     for horizon in [16, 100, 777, 1999, 2000] {
-        let answer = quick(&shape_of_i(horizon), WORK_LEN);
+        let answer = quick(&table_1(horizon), WORK_LEN);
         assert_eq!(answer, Ok(Quick::Over { length: 1, demand: 2 }));
     }
 }
 
-/// One switch in module 0; two in module 1, between modes of periods 4 and 8.
-fn shape_of_i(horizon: u16) -> Vec<u8> {
-    let first = vec![mode(4, &[(0, 1, 1, 4)], &[(1, 4)]), mode(8, &[(1, 3, 3, 4)], &[])];
-    let second = vec![mode(4, &[(2, 1, 1, 4)], &[(1, 4)]), mode(8, &[(0, 2, 8, 8)], &[(0, 8)])];
-    sheet(horizon, vec![first, second])
+/// The system of the source's Table 1: three modules, with one switch in module 0 and two in
+/// module 1.
+fn table_1(horizon: u16) -> Vec<u8> {
+    let first =
+        vec![mode(10, &[(0, 2, 6, 10), (0, 1, 5, 5)], &[(1, 10)]), mode(8, &[(2, 1, 2, 8)], &[])];
+    let second = vec![mode(4, &[(0, 1, 4, 4)], &[(1, 4)]), mode(8, &[(1, 1, 1, 8)], &[(0, 8)])];
+    let third = vec![mode(8, &[(2, 1, 1, 8)], &[])];
+    sheet(horizon, vec![first, second, third])
 }
 
 #[test]

@@ -1,0 +1,4 @@
+pub mod Runs
+pub mod Room
+pub mod Giving
+pub mod Unique

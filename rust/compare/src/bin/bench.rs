@@ -1,0 +1,155 @@
+//! Times the quick and the exact test of the archive and of the second implementation on the
+//! sheets of `bench/sheets`, and prints the times as tables:
+//!
+//! `cargo run --release --bin bench`
+
+use compare::answer::Answer;
+use compare::sheets::folder;
+use second::{Exact, WORK_LEN};
+use std::path::PathBuf;
+use std::time::{Duration, Instant};
+use std::{fs, io};
+use tyvasuri::Sheet;
+
+/// A time is the best of at most so many calls.
+const MOST_CALLS: usize = 25;
+/// No further call is begun after so long.
+const MOST_TIME: Duration = Duration::from_secs(10);
+/// The horizons of the exact test; the last is that of the sheets.
+const HORIZONS: [u16; 3] = [500, 1000, 2000];
+
+/// What both sides answer, and how long each takes.
+struct Timed {
+    verdict: String,
+    archive: Duration,
+    second: Duration,
+}
+
+/// The times of one sheet: the quick test, and the exact test at each horizon.
+struct Times {
+    name: String,
+    quick: Timed,
+    exact: [Timed; HORIZONS.len()],
+}
+
+fn main() -> io::Result<()> {
+    let mut times = Vec::new();
+    for path in paths()? {
+        times.push(time_sheet(&path)?);
+    }
+    println!(
+        "Each time is the best of at most {MOST_CALLS} calls, none begun after {} s, by the wall \
+         clock in one thread. Both sides ran in this one run, built for release, on {} {}. A call \
+         judges the sheet and works out the answer; the lent memory is not cleared between calls.",
+        MOST_TIME.as_secs(),
+        std::env::consts::ARCH,
+        std::env::consts::OS
+    );
+    print_tests(&times);
+    print_growth(&times);
+    Ok(())
+}
+
+/// The sheets' files, by name.
+fn paths() -> io::Result<Vec<PathBuf>> {
+    let files = fs::read_dir(folder())?.map(|entry| Ok(entry?.path()));
+    let mut paths = files.collect::<io::Result<Vec<PathBuf>>>()?;
+    paths.retain(|path| path.extension().is_some_and(|ending| ending == "sheet"));
+    paths.sort();
+    Ok(paths)
+}
+
+fn time_sheet(path: &PathBuf) -> io::Result<Times> {
+    let bytes = fs::read(path)?;
+    let name = path.file_stem().unwrap_or_default().to_string_lossy().into_owned();
+    eprintln!("{name}");
+    let exact = HORIZONS.map(|horizon| time_exact(&with_horizon(&bytes, horizon)));
+    Ok(Times { name, quick: time_quick(&bytes), exact })
+}
+
+/// The same sheet with another horizon.
+fn with_horizon(bytes: &[u8], horizon: u16) -> Vec<u8> {
+    let mut changed = bytes.to_vec();
+    changed[2..4].copy_from_slice(&horizon.to_le_bytes());
+    changed
+}
+
+fn time_quick(bytes: &[u8]) -> Timed {
+    let mut work = vec![0; Sheet::WORK_LEN];
+    let archive = || tyvasuri::quick_test(bytes, &mut work).map_or_else(Answer::from, Answer::from);
+    let second = || second::quick(bytes, WORK_LEN).map_or_else(Answer::Refused, Answer::Quick);
+    timed(best(archive), best(second))
+}
+
+fn time_exact(bytes: &[u8]) -> Timed {
+    let (mut work, mut tape) = (vec![0; Sheet::WORK_LEN], vec![0; Sheet::MOST_TAPE_LEN]);
+    let tape_len = tape.len() as u64;
+    let archive = || {
+        tyvasuri::exact_test(bytes, &mut work, &mut tape).map_or_else(Answer::from, Answer::from)
+    };
+    let second =
+        || second::exact(bytes, WORK_LEN, tape_len).map_or_else(Answer::Refused, Answer::Exact);
+    timed(best(archive), best(second))
+}
+
+/// The shortest of several calls, and what they answer.
+fn best(mut call: impl FnMut() -> Answer) -> (Duration, Answer) {
+    let begun = Instant::now();
+    let mut once = || {
+        let start = Instant::now();
+        let answer = call();
+        (start.elapsed(), answer)
+    };
+    let (mut shortest, answer) = once();
+    for _ in 1..MOST_CALLS {
+        if begun.elapsed() > MOST_TIME {
+            break;
+        }
+        shortest = shortest.min(once().0);
+    }
+    (shortest, answer)
+}
+
+/// Both sides' times, if their answers are the same.
+fn timed((archive, answer): (Duration, Answer), (second, wanted): (Duration, Answer)) -> Timed {
+    assert!(answer == wanted, "the archive says {answer}, the second implementation {wanted}");
+    Timed { verdict: words(&answer), archive, second }
+}
+
+/// The verdict without its tapes.
+fn words(answer: &Answer) -> String {
+    match answer {
+        Answer::Exact(Exact::Over { a, b, demand, .. }) => format!("over {a} {b} demand {demand}"),
+        other => other.to_string(),
+    }
+}
+
+fn print_tests(times: &[Times]) {
+    println!("\n| Sheet | Test | Verdict | Archive | Second | Archive / second |");
+    println!("|---|---|---|---|---|---|");
+    for Times { name, quick, exact } in times {
+        println!("| {name} | quick | {} |", cells(quick));
+        println!("| {name} | exact | {} |", cells(&exact[HORIZONS.len() - 1]));
+    }
+}
+
+fn print_growth(times: &[Times]) {
+    println!("\nThe exact test of the same sheets at other horizons:");
+    println!("\n| Sheet | Horizon | Verdict | Archive | Second | Archive / second |");
+    println!("|---|---|---|---|---|---|");
+    for Times { name, exact, .. } in times {
+        for (horizon, timed) in HORIZONS.iter().zip(exact) {
+            println!("| {name} | {horizon} | {} |", cells(timed));
+        }
+    }
+}
+
+/// The verdict, the two times and their ratio.
+fn cells(Timed { verdict, archive, second }: &Timed) -> String {
+    let ratio = archive.as_secs_f64() / second.as_secs_f64();
+    format!("{verdict} | {} | {} | {ratio:.1}", in_ms(*archive), in_ms(*second))
+}
+
+fn in_ms(time: Duration) -> String {
+    format!("{:.2} ms", time.as_secs_f64() * 1000.0)
+}

@@ -1,0 +1,63 @@
+//! How many calls of each kind were compared, and what they gave.
+
+use crate::answer::Answer;
+use crate::query::{Query, KINDS};
+use second::{Exact, Quick};
+use std::fmt;
+
+/// The counts of a comparison.
+#[derive(Clone, Debug, Default, PartialEq, Eq)]
+pub struct Tally {
+    /// For each call of [`KINDS`] how often it was answered, and refused by each number. The judge
+    /// is called once for each sheet.
+    pub calls: [[u64; 11]; KINDS.len()],
+    /// Quick tests that said clear, and over.
+    pub quick: [u64; 2],
+    /// Exact tests that said clear, and over.
+    pub exact: [u64; 2],
+    /// Exact tests that said over from a start above 0.
+    pub late_starts: u64,
+    /// Exact tests that said over with a tape of more than one mode.
+    pub switching: u64,
+    /// The ticks of the longest tape.
+    pub longest_tape: usize,
+}
+
+impl Tally {
+    /// Counts an answer that both sides gave.
+    pub fn count(&mut self, query: &Query, answer: &Answer) {
+        self.calls[query.kind()][answer.number()] += 1;
+        match answer {
+            Answer::Quick(verdict) => self.quick[usize::from(*verdict != Quick::Clear)] += 1,
+            Answer::Exact(Exact::Clear) => self.exact[0] += 1,
+            Answer::Exact(Exact::Over { a, b, tapes, .. }) => {
+                self.exact[1] += 1;
+                self.late_starts += u64::from(*a > 0);
+                self.switching += u64::from(tapes.iter().flatten().any(|&mode| mode != 0));
+                self.longest_tape = self.longest_tape.max(*b as usize);
+            }
+            _ => {}
+        }
+    }
+}
+
+impl fmt::Display for Tally {
+    fn fmt(&self, f: &mut fmt::Formatter<'_>) -> fmt::Result {
+        let [accepted, refused @ ..] = &self.calls[0];
+        writeln!(f, "sheets: {accepted} accepted, {} refused", refused.iter().sum::<u64>())?;
+        write!(f, "{:14}{:>11}", "call", "answered")?;
+        (1..=10).try_for_each(|number| write!(f, "{:>11}", format!("refused {number}")))?;
+        writeln!(f)?;
+        for (name, counts) in KINDS.iter().zip(&self.calls) {
+            write!(f, "{name:14}")?;
+            counts.iter().try_for_each(|count| write!(f, "{count:>11}"))?;
+            writeln!(f)?;
+        }
+        let ([quick_clear, quick_over], [exact_clear, exact_over]) = (self.quick, self.exact);
+        writeln!(f, "quick test: {quick_clear} clear, {quick_over} over")?;
+        write!(f, "exact test: {exact_clear} clear, {exact_over} over, ")?;
+        write!(f, "of these {} from a start above 0, ", self.late_starts)?;
+        writeln!(f, "{} with a switch on a tape", self.switching)?;
+        writeln!(f, "longest tape: {} ticks", self.longest_tape)
+    }
+}

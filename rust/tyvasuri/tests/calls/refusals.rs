@@ -1,0 +1,94 @@
+//! Every refusal, what goes before what, and the messages.
+
+use crate::sheets::{sheet, sheet_a};
+use std::error::Error;
+use tyvasuri::{
+    exact_test, judge, mode_demand, module_demand, quick_test, report, state_demand, Fault,
+    Refusal, Sheet,
+};
+
+/// A refusal with a place.
+fn at(fault: Fault, place: usize) -> Refusal {
+    Refusal { fault, place }
+}
+
+/// Checks that the judge refuses the sheet so, and that the calls do.
+fn check_refused(bytes: &[u8], refusal: Refusal) {
+    let refused = Some(refusal);
+    assert_eq!(judge(bytes).err(), refused);
+    assert_eq!(mode_demand(bytes, 99, 99, 1, 0).err(), refused);
+    assert_eq!(state_demand(bytes, 99, 99, 99, 9999, &mut []).err(), refused);
+    assert_eq!(module_demand(bytes, 99, 9999, &mut []).err(), refused);
+    assert_eq!(quick_test(bytes, &mut []).err(), refused);
+    assert_eq!(exact_test(bytes, &mut [], &mut []).err(), refused);
+    assert_eq!(report(bytes, &mut [], &mut [], &mut []).err(), refused);
+}
+
+/// A sheet's fault goes before ranges and memory, which every call here breaks.
+#[test]
+fn sheet_faults_go_first() {
+    check_refused(&sheet_a()[..63], at(Fault::CutShort, 60));
+    check_refused(&sheet("HZ 1 XY 1 MD 1 EN 3"), at(Fault::UnknownMark, 4));
+    check_refused(&sheet("HZ 1 MD 1 EN 2"), at(Fault::OutOfOrder, 4));
+    check_refused(&nine_modules(), at(Fault::PastCount, 68));
+    check_refused(&sheet("HZ 2001 ML 1 MD 1 EN 3"), at(Fault::BadField, 0));
+    check_refused(&sheet("HZ 1 ML 1 MD 1 SW 0 1 EN 4"), at(Fault::BadSwitch, 12));
+    check_refused(&sheet("HZ 1 ML 1 MD 1 EN 2"), at(Fault::BadEnd, 12));
+    check_refused(&sheet("HZ 1 ML 1 MD 1 EN 3 EN 3"), at(Fault::BytesAfter, 16));
+}
+
+/// A sheet with a ninth module, which begins at byte 68.
+fn nine_modules() -> Vec<u8> {
+    sheet(&format!("HZ 1 {} EN 19", "ML 1 MD 1 ".repeat(9)))
+}
+
+#[test]
+fn ranges_go_before_memory() {
+    let bytes = sheet_a();
+    let out_of_range = Err(at(Fault::OutOfRange, 0));
+    for module in [2, 1 << 8, 1 << 32, usize::MAX] {
+        assert_eq!(mode_demand(&bytes, module, 0, 0, 0), out_of_range);
+        assert_eq!(state_demand(&bytes, module, 0, 0, 0, &mut []), out_of_range);
+        assert_eq!(module_demand(&bytes, module, 0, &mut []), out_of_range);
+    }
+    for mode in [1, 1 << 8, 1 << 32, usize::MAX] {
+        assert_eq!(mode_demand(&bytes, 0, mode, 0, 0), out_of_range);
+        assert_eq!(state_demand(&bytes, 0, mode, 0, 0, &mut []), out_of_range);
+    }
+    assert_eq!(mode_demand(&bytes, 0, 0, 2, 1), out_of_range);
+    assert_eq!(mode_demand(&bytes, 0, 0, 0, 5), out_of_range);
+    assert_eq!(state_demand(&bytes, 0, 0, 4, 0, &mut []), out_of_range);
+    assert_eq!(state_demand(&bytes, 0, 0, 0, 9, &mut []), out_of_range);
+    assert_eq!(module_demand(&bytes, 0, 9, &mut []), out_of_range);
+}
+
+/// The last number of each range is in it.
+#[test]
+fn range_ends_are_in_range() {
+    let bytes = sheet_a();
+    let mut work = vec![0; Sheet::WORK_LEN];
+    assert_eq!(mode_demand(&bytes, 1, 1, 4, 4), Ok(0));
+    assert_eq!(state_demand(&bytes, 1, 1, 3, 8, &mut work), Ok(4));
+    assert_eq!(state_demand(&bytes, 1, 1, 3, 0, &mut work), Ok(0));
+    assert_eq!(module_demand(&bytes, 1, 8, &mut work), Ok(4));
+}
+
+#[test]
+fn messages_say_what_and_where() {
+    let message = |fault, place| at(fault, place).to_string();
+    assert_eq!(
+        message(Fault::CutShort, 60),
+        "refusal 1: the sheet ends where a mark or a field is wanted, in the record at byte 60"
+    );
+    assert_eq!(message(Fault::BytesAfter, 16), "refusal 8: bytes stand after EN, from byte 16 on");
+    assert_eq!(message(Fault::MemoryTooShort, 0), "refusal 10: the lent memory is too short");
+    for fault in Fault::ALL {
+        assert!(message(fault, 7).contains(&fault.to_string()));
+    }
+}
+
+#[test]
+fn refusals_are_errors() {
+    let failed: Box<dyn Error> = judge(b"").unwrap_err().into();
+    assert!(failed.to_string().starts_with("refusal 1: "));
+}

@@ -1,0 +1,57 @@
+//! Sheets written as words.
+
+/// The bytes of a sheet: marks as they stand, numbers as fields.
+pub fn sheet(words: &str) -> Vec<u8> {
+    words
+        .split_whitespace()
+        .flat_map(|word| match word.parse::<u16>() {
+            Ok(field) => field.to_le_bytes(),
+            Err(_) => word.as_bytes().try_into().expect("a mark has two letters"),
+        })
+        .collect()
+}
+
+/// Sheet A.
+pub fn sheet_a() -> Vec<u8> {
+    sheet(
+        "HZ 8
+         ML 1 MD 4 TK 0 2 3 4
+         ML 2 MD 4 TK 0 1 4 4 SW 1 4
+              MD 4 TK 1 2 2 4
+         EN 10",
+    )
+}
+
+/// Sheet B: A with horizon 6.
+pub fn sheet_b() -> Vec<u8> {
+    let mut bytes = sheet_a();
+    bytes[2] = 6;
+    bytes
+}
+
+/// Sheet F.
+pub fn sheet_f() -> Vec<u8> {
+    sheet(
+        "HZ 16
+         ML 2 MD 4 TK 0 2 2 4 SW 1 4
+              MD 4 TK 2 2 2 4 SW 0 4
+         ML 1 MD 8 TK 0 4 8 8
+         EN 11",
+    )
+}
+
+/// Sheet G.
+pub fn sheet_g() -> Vec<u8> {
+    sheet(
+        "HZ 8
+         ML 2 MD 4 TK 0 1 1 4 SW 1 4
+              MD 4 TK 1 3 3 4 SW 0 4
+         ML 1 MD 8 TK 0 6 8 8
+         EN 11",
+    )
+}
+
+/// Sheet H.
+pub fn sheet_h() -> Vec<u8> {
+    sheet("HZ 1 ML 1 MD 1 EN 3")
+}

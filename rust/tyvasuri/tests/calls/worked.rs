@@ -1,0 +1,145 @@
+//! The worked cases of document 01.
+
+use crate::sheets::{sheet, sheet_a, sheet_b, sheet_f, sheet_g, sheet_h};
+use tyvasuri::{Counts, Exact, Fault, Memory, Quick, Refusal, Sheet};
+
+/// Sheet A in hex, as document 01 prints it.
+const PRINTED_A: &str = "48 5A 08 00 4D 4C 01 00 4D 44 04 00 54 4B 00 00 02 00 03 00 04 00 4D 4C 02 \
+    00 4D 44 04 00 54 4B 00 00 01 00 04 00 04 00 53 57 01 00 04 00 4D 44 04 00 54 4B 01 00 02 00 02 \
+    00 04 00 45 4E 0A 00";
+
+/// Checks both tests: the quick verdict, and the exact one as start, end, demand
+/// and tapes, none for clear.
+fn check_verdicts(bytes: &[u8], quick: Quick, over: Option<(usize, usize, u32, &[&[u8]])>) {
+    let sheet = Sheet::judge(bytes).unwrap();
+    let mut memory = Memory::new();
+    assert_eq!(sheet.quick_test_in(&mut memory), quick);
+    let found = match sheet.exact_test_in(&mut memory) {
+        Exact::Clear => None,
+        Exact::Over { start, end, demand, tapes } => {
+            Some((start, end, demand, tapes.iter().collect::<Vec<_>>()))
+        }
+    };
+    assert_eq!(found, over.map(|(start, end, demand, tapes)| (start, end, demand, tapes.to_vec())));
+}
+
+#[test]
+fn case_a_as_printed() {
+    let hex = |pair| u8::from_str_radix(pair, 16).unwrap();
+    let bytes: Vec<u8> = PRINTED_A.split_whitespace().map(hex).collect();
+    assert_eq!(bytes, sheet_a());
+    let sheet = Sheet::judge(&bytes).unwrap();
+    assert_eq!(
+        sheet.report_in(&mut Memory::new()),
+        "sheet modules 2 modes 3 tasks 3 switches 1 horizon 8\n\
+         quick over 3 demand 4\n\
+         exact over 4 7 demand 4\n\
+         run 0 0000000\n\
+         run 1 0000111\n"
+    );
+}
+
+#[test]
+fn case_a() {
+    let bytes = sheet_a();
+    let sheet = Sheet::judge(&bytes).unwrap();
+    let counts = Counts { modules: 2, modes: 3, tasks: 3, switches: 1, horizon: 8 };
+    assert_eq!(sheet.counts(), counts);
+    assert_eq!((sheet.horizon(), sheet.tape_len()), (8, 16));
+    let tapes: [&[u8]; 2] = [&[0, 0, 0, 0, 0, 0, 0], &[0, 0, 0, 0, 1, 1, 1]];
+    check_verdicts(&bytes, Quick::Over { length: 3, demand: 4 }, Some((4, 7, 4, &tapes)));
+}
+
+#[test]
+fn case_b() {
+    check_verdicts(&sheet_b(), Quick::Over { length: 3, demand: 4 }, None);
+}
+
+#[test]
+fn case_c() {
+    let bytes = sheet_a();
+    let sheet = Sheet::judge(&bytes).unwrap();
+    let mut memory = Memory::new();
+    assert_eq!(sheet.state_demand_in(1, 0, 1, 5, &mut memory), Ok(0));
+    assert_eq!(sheet.state_demand_in(1, 0, 1, 6, &mut memory), Ok(2));
+}
+
+#[test]
+fn case_d() {
+    let bytes = sheet("HZ 8 ML 1 MD 8 TK 1 1 1 8 EN 4");
+    let demand = |from, to| Sheet::judge(&bytes)?.mode_demand(0, 0, from, to);
+    assert_eq!([demand(0, 1), demand(0, 2)], [Ok(0), Ok(1)]);
+    assert_eq!([demand(1, 2), demand(2, 8)], [Ok(1), Ok(0)]);
+}
+
+#[test]
+fn case_e() {
+    let bytes = sheet("HZ 8 ML 1 MD 8 TK 0 1 4 4 EN 4");
+    let demand = |from, to| Sheet::judge(&bytes)?.mode_demand(0, 0, from, to);
+    assert_eq!([demand(1, 4), demand(1, 8), demand(0, 8)], [Ok(0), Ok(1), Ok(2)]);
+}
+
+#[test]
+fn case_f() {
+    check_verdicts(&sheet_f(), Quick::Over { length: 8, demand: 10 }, None);
+}
+
+#[test]
+fn case_g() {
+    let tapes: [&[u8]; 2] = [&[0, 0, 0, 0, 1, 1, 1, 1], &[0; 8]];
+    check_verdicts(&sheet_g(), Quick::Over { length: 8, demand: 13 }, Some((0, 8, 10, &tapes)));
+}
+
+#[test]
+fn case_h() {
+    let bytes = sheet_h();
+    assert_eq!(bytes.len(), 16);
+    check_verdicts(&bytes, Quick::Clear, None);
+}
+
+#[test]
+fn case_h_damaged() {
+    let refused = |bytes: &[u8]| Sheet::judge(bytes).unwrap_err();
+    let wrong_number = sheet("HZ 1 ML 1 MD 1 EN 4");
+    assert_eq!(refused(&wrong_number), Refusal { fault: Fault::BadEnd, place: 12 });
+    let one_more = [&sheet_h()[..], &[0]].concat();
+    assert_eq!(refused(&one_more), Refusal { fault: Fault::BytesAfter, place: 16 });
+    assert_eq!(refused(&[]), Refusal { fault: Fault::CutShort, place: 0 });
+}
+
+/// The system of the source's Table 1.
+#[test]
+fn case_i_at_any_horizon() {
+    for horizon in [1, 2, 3, 10, 777, 2000] {
+        let bytes = sheet(&format!(
+            "HZ {horizon}
+             ML 2 MD 10 TK 0 2 6 10 TK 0 1 5 5 SW 1 10
+                  MD 8 TK 2 1 2 8
+             ML 2 MD 4 TK 0 1 4 4 SW 1 4
+                  MD 8 TK 1 1 1 8 SW 0 8
+             ML 1 MD 8 TK 2 1 1 8
+             EN 18"
+        ));
+        let verdict = Sheet::judge(&bytes).unwrap().quick_test_in(&mut Memory::new());
+        assert_eq!(verdict, Quick::Over { length: 1, demand: 2 });
+    }
+}
+
+#[test]
+fn case_j() {
+    let refused = |bytes: &[u8]| Sheet::judge(bytes).err().map(|refusal| refusal.number());
+    assert_eq!(refused(&sheet("HZ 4 ML 1 MD 4 TK 1 3 3 4 EN 4")), None);
+    assert_eq!(refused(&sheet("HZ 4 ML 1 MD 4 TK 1 1 4 4 EN 4")), Some(5));
+    assert_eq!(refused(&sheet("HZ 4 ML 2 MD 8 TK 0 1 1 8 SW 1 4 MD 8 EN 6")), Some(6));
+}
+
+/// The module demands for the quick test's length are what it sums up.
+#[test]
+fn quick_sum_of_module_demands() {
+    for (bytes, length, sum) in [(sheet_a(), 3, 4), (sheet_f(), 8, 10), (sheet_g(), 8, 13)] {
+        let sheet = Sheet::judge(&bytes).unwrap();
+        let mut memory = Memory::new();
+        let mut demand = |module| sheet.module_demand_in(module, length, &mut memory).unwrap();
+        assert_eq!(demand(0) + demand(1), sum);
+    }
+}
