@@ -1,5 +1,5 @@
 -- What an answer can be, whatever the bytes are: a refusal's number is from 1 to 10, and its place is in the longest sheet or at its end; what is given
--- belongs to a well-formed sheet. And what bounds the modes of such a sheet and the demand of an exact verdict. Assumes nothing.
+-- belongs to a well-formed sheet. And what bounds the modes of such a sheet and the demand of a verdict. Assumes nothing.
 use mathlib.Core.Path.{_≡_, refl, sym, subst}
 use mathlib.Core.Bool.{Bool, true, false}
 use mathlib.Core.List.{List, []}
@@ -13,12 +13,12 @@ use Rattle.model.specs.Sheet.{Module, Sheet, modesIn, counts}
 use Rattle.model.specs.Limits.{maxBytes}
 use Rattle.model.specs.WellFormed.{ModuleRule, WellFormed}
 use Rattle.model.specs.Run.{first}
-use Rattle.model.specs.Demand.{value}
-use Rattle.model.specs.Verdict.{Exact, ExactIs, exactSum}
+use Rattle.model.specs.Demand.{moduleDemand, value}
+use Rattle.model.specs.Verdict.{Quick, Exact, QuickIs, ExactIs, quickSum, exactSum}
 use Rattle.model.proofs.Lists.{all-at}
 use Rattle.model.proofs.Runs.{period-positive}
 use Rattle.model.proofs.Bounds.{value-bound}
-use Rattle.model.proofs.Verdicts.{exact-sum-only}
+use Rattle.model.proofs.Verdicts.{quick-sum-only, exact-sum-only}
 use Rattle.format.specs.Record.{Mark, HZ, ML, MD, TK, SW, EN}
 use Rattle.format.specs.Rules.{fieldNumber}
 use Rattle.format.specs.Judgement.{Judgement, judgement}
@@ -26,8 +26,13 @@ use Rattle.format.specs.Refusal.{Refusal, no-mark, unknown-mark, cut-short, out
 use Rattle.format.proofs.Judging.{judgement-refusal}
 use Rattle.format.proofs.RoundTrip.{accepted-wellFormed, refused-place}
 use Rattle.query.specs.Answer.{Answer, refused, given, Terms, GivenBy, AnsweredBy, Answered}
+use Rattle.query.specs.Query.{WitnessedIs, exactTerms, ExactAnswer}
+use Rattle.sums.proofs.Sums.{demand-bound}
 use Rattle.quick.proofs.Summing.{sum-most}
-use Rattle.checker.specs.Calls.{Placed}
+use Rattle.exact.specs.declared.Exact as exact
+use Rattle.exact.specs.declared.Exact.the-variants.{Refused, Clear, Over}
+use Rattle.exact.specs.Exact.{answerOf}
+use Rattle.checker.specs.Calls.{Placed, Fits}
 
 -- Refusals.
 
@@ -96,9 +101,25 @@ module _ (s : Sheet) (ok : WellFormed s) where
   pub modes-most : counts s .modes ≤ 64
   modes-most = omega (arith, sum-bound modesIn 8 (λ m r. r .most), ok .modules-most)
 
+  pub quick-demand : (L v : ℕ) → QuickIs s (Quick.over L v) → v < 2 ^ 32
+  unfolding quickSum
+  quick-demand L v h =
+      let most = sum-bound (λ m. moduleDemand m L) 32000 (λ m r. omega (arith, demand-bound m r L, h .1, ok .horizon-most)) in
+      omega (arith, quick-sum-only s ok L v (h .2), most, ok .modules-most)
+
   -- the demand fits the 24 bits above start and end
   pub exact-demand : (a b v : ℕ) → ExactIs s (Exact.over a b v) → v < 2 ^ 24
   unfolding exactSum
   exact-demand a b v h =
       let most = sum-bound (λ m. value m a b first) 32000 (λ m r. omega (arith, value-bound m r a b first (period-positive m r 0), h .1, ok .horizon-most)) in
       omega (arith, exact-sum-only s ok a b v (h .2), most, ok .modules-most)
+
+-- The exact test.
+
+pub exact-fits : (bytes : List ℕ) (work tape n : ℕ) (memory : List ℕ) (x : exact.Exact) → ExactAnswer bytes work tape (answerOf n memory x) → Fits x
+exact-fits bytes work tape n memory x h = pick x (possible (exactTerms work tape) WitnessedIs bytes (answerOf n memory x) h)
+  where
+    pick : (x : exact.Exact) → Possible WitnessedIs (answerOf n memory x) → Fits x
+    pick (Refused number place) c = c .placed
+    pick Clear c = tt
+    pick (Over x) c = exact-demand (c .0) (c .1) (x .start) (x .end) (x .demand) (c .2 .0)

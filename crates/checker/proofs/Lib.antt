@@ -1,3 +1,4 @@
 pub mod Bounds
+pub mod Room
 pub mod Readings
 pub mod Unique

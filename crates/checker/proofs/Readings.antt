@@ -7,6 +7,7 @@ use Prim.Native.Nat.{ℕ, _+_, _*_, _/_, _%_, _<_}
 use native.Mathlib.Nat.{zero-add, mod-eq-of-lt, div-eq-of-lt, add-mul-mod-self-left, add-mul-div-left, mul-mod-right, mul-div-right}
 use native.Mathlib.Omega.{arith}
 use lib.Dec.{eqb}
+use lib.ListN.{length}
 use borrow.Author.Tests.{ne-eqb}
 use Rattle.model.specs.Sheet.{Sheet, Counts, counts}
 use Rattle.model.specs.WellFormed.{WellFormed}
@@ -16,7 +17,10 @@ use Rattle.format.proofs.RoundTrip.{accepted-wellFormed}
 use Rattle.query.specs.Answer.{Answer, refused, given, Terms, Answered}
 use Rattle.query.specs.Query.{Witnessed, WitnessedIs, quickTerms, exactTerms, QuickAnswer, ExactAnswer}
 use Rattle.judge.specs.Told.{told-accepted, tellsOf}
-use Rattle.checker.specs.Numbers.{refusedNumber, acceptedNumber, judgedNumber, figureNumber, quickNumber, verdictNumber, exactNumber}
+use Rattle.exact.specs.Exact.{answerOf, modulesIn, ExactTested}
+use Rattle.report.specs.Report as report
+use Rattle.report.specs.Report.{reportTerms, Lines, Reported}
+use Rattle.checker.specs.Numbers.{refusedNumber, acceptedNumber, judgedNumber, figureNumber, quickNumber, verdictNumber, exactNumber, exactOf}
 use Rattle.checker.specs.Calls.{Numbered}
 use Rattle.checker.specs.Reading.{kind, above, readJudged, readFigure, readQuick, readExact, verdictOf}
 use Rattle.checker.proofs.Bounds.{CanRefuse, judged-refused, Possible, possible, modes-most}
@@ -114,6 +118,15 @@ exact-read bytes work tape a h = pick a (possible (exactTerms work tape) Witness
     pick : (a : Answer Witnessed) → Possible WitnessedIs a → readExact (exactNumber a) ≡ verdictOf a
     pick (refused n p) c = rw (kind-refused n p c, above-refused n p c, not-answered n p c, not-over n p c)
     pick (given w) c = verdict (c .0) (c .1) (w .verdict) (c .2 .0)
+
+-- what is read of the call's number is the verdict of its answer
+pub exact-number-read : {bytes w w′ t t′ : List ℕ} {r : ℕ} (g : Numbered (exactOf bytes t′) (ExactTested bytes w w′ t t′) r) → readExact r ≡ verdictOf (answerOf (modulesIn bytes) t′ (g .answer))
+exact-number-read {bytes} {w} {w′} {t} {t′} g = ap readExact (g .number) ∙ exact-read bytes (length w) (length t) (answerOf (modulesIn bytes) t′ (g .answer)) (g .is .answer)
+
+-- The report.
+
+pub report-number-read : {bytes w w′ t t′ o o′ : List ℕ} {r : ℕ} (g : Numbered (λ x. figureNumber (report.answerOf x)) (Reported bytes w w′ t t′ o o′) r) → readFigure r ≡ report.answerOf (g .answer)
+report-number-read {bytes} {w} {w′} {t} {t′} {o} {o′} g = ap readFigure (g .number) ∙ figure-read (reportTerms (length w) (length t) (length o)) (λ s n. Lines s o′ n) bytes (report.answerOf (g .answer)) (g .is .answer)
 
 -- Any call: what is read of its number is its answer.
 pub numbered-read : {A : Type 0} {numberOf : A → ℕ} {R : A → Type 0} {r : ℕ} (read : ℕ → A) → ((a : A) → R a → read (numberOf a) ≡ a) → Numbered numberOf R r → R (read r)

@@ -8,7 +8,12 @@ use Rattle.query.specs.Query.{ModeAnswer, StateAnswer, ModuleAnswer, QuickAnswe
 use Rattle.query.specs.Memory.{Stays, workUsed}
 use Rattle.query.proofs.Answers.{mode-answer-unique, state-answer-unique, module-answer-unique, quick-answer-unique}
 use Rattle.query.proofs.Meeting.{stays-agree}
-use Rattle.checker.specs.Numbers.{figureNumber, quickNumber}
+use Rattle.exact.specs.Exact.{answerOf, modulesIn, ExactTested}
+use Rattle.exact.proofs.Unique.{exact-unique}
+use Rattle.report.specs.Report.{Reported}
+use Rattle.report.specs.Report as report
+use Rattle.report.proofs.Unique.{report-unique}
+use Rattle.checker.specs.Numbers.{figureNumber, quickNumber, exactOf}
 use Rattle.checker.specs.Calls.{Numbered, Worked}
 
 -- Any call.
@@ -44,3 +49,19 @@ module _ (bytes : List ℕ) {w u v : List ℕ} {r q : ℕ} where
 
   pub quick-unique : (g : Numbered quickNumber (Worked (QuickAnswer bytes) w u) r) → Numbered quickNumber (Worked (QuickAnswer bytes) w v) q → Agree (g .answer) r q u v
   quick-unique = worked-unique (QuickAnswer bytes) (quick-answer-unique bytes (length w))
+
+-- The exact test: the whole tape memory agrees too.
+
+module _ (bytes : List ℕ) {w u v t p q : List ℕ} {r s : ℕ} where
+  pub exact-number-unique : (g : Numbered (exactOf bytes p) (ExactTested bytes w u t p) r) → Numbered (exactOf bytes q) (ExactTested bytes w v t q) s → Agree (answerOf (modulesIn bytes) p (g .answer)) r s u v × (p ≡ q)
+  exact-number-unique g h =
+      let same = exact-unique (g .is) (h .is) in
+      (record { number = g .number ∙ rw (same .answer, same .tape) (sym (h .number)); memory = same .memory }, same .tape)
+
+-- The report: the whole tape memory and the whole output memory agree too.
+
+module _ (bytes : List ℕ) {w u v t p q o x y : List ℕ} {r s : ℕ} where
+  pub report-number-unique : (g : Numbered (λ a. figureNumber (report.answerOf a)) (Reported bytes w u t p o x) r) → Numbered (λ a. figureNumber (report.answerOf a)) (Reported bytes w v t q o y) s → Agree (report.answerOf (g .answer)) r s u v × (p ≡ q) × (x ≡ y)
+  report-number-unique g h =
+      let same = report-unique (g .is) (h .is) in
+      (record { number = g .number ∙ rw (same .answer) (sym (h .number)); memory = same .memory }, same .tape, same .out)

@@ -2,11 +2,14 @@
 -- answer uses may differ. Assumes nothing.
 use mathlib.Core.Path.{_≡_}
 use mathlib.Core.List.{List}
-use Prim.Native.Nat.{ℕ, _≤_}
+use Prim.Native.Nat.{ℕ, _^_, _≤_, _<_}
 use lib.ListN.{length}
 use Rattle.model.specs.Limits.{maxBytes}
 use Rattle.query.specs.Answer.{Answer, refused, given}
 use Rattle.query.specs.Memory.{Stays, workUsed}
+use Rattle.exact.specs.declared.Exact.{Exact}
+use Rattle.exact.specs.declared.Exact.the-variants.{Refused, Clear, Over}
+use Rattle.report.specs.Report.{outBytes}
 
 -- r is the number of an answer that R states
 pub record Numbered {A : Type 0} (numberOf : A → ℕ) (R : A → Type 0) (r : ℕ) : Type 0 where
@@ -23,3 +26,14 @@ pub record Worked {A : Type 0} (R : ℕ → Answer A → Type 0) (w w′ : List 
 abbrev pub Placed : {A : Type 0} → Answer A → Type 0
 Placed (refused number place) = place ≤ maxBytes
 Placed (given v) = Unit {0}
+
+-- the same of the exact test, whose demand fits the 24 bits above start and end
+abbrev pub Fits : Exact → Type 0
+Fits (Refused number place) = place ≤ maxBytes
+Fits Clear = Unit {0}
+Fits (Over x) = x .demand < 2 ^ 24
+
+-- the same of a report, whose lines the output memory can hold
+abbrev pub Held : Answer ℕ → Type 0
+Held (refused number place) = place ≤ maxBytes
+Held (given n) = n ≤ outBytes

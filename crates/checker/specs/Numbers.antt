@@ -1,11 +1,14 @@
 -- The numbers of 64 bits that hold the answers at the C boundary: in the lowest byte the kind, 0 answered, 255 over, else the refusal number of
 -- document 01; above it the place or the figures. Assumes nothing.
+use mathlib.Core.List.{List}
 use Prim.Native.Nat.{ℕ, _+_, _*_}
 use Rattle.model.specs.Sheet.{Counts, counts}
 use Rattle.model.specs.Verdict.{Quick, Exact}
 use Rattle.format.specs.Judgement.{Judgement}
 use Rattle.query.specs.Answer.{Answer, refused, given}
 use Rattle.query.specs.Query.{Witnessed}
+use Rattle.exact.specs.declared.Exact as exact
+use Rattle.exact.specs.Exact.{answerOf, modulesIn}
 
 abbrev pub refusedNumber : ℕ → ℕ → ℕ
 refusedNumber number place = number + 256 * place
@@ -37,3 +40,7 @@ verdictNumber (Exact.over a b v) = 255 + 256 * (a + 65536 * (b + 65536 * v))
 abbrev pub exactNumber : Answer Witnessed → ℕ
 exactNumber (refused number place) = refusedNumber number place
 exactNumber (given w) = verdictNumber (w .verdict)
+
+-- the number of what the exact test says of the bytes, where it leaves the tape memory so
+abbrev pub exactOf : List ℕ → List ℕ → exact.Exact → ℕ
+exactOf bytes memory x = exactNumber (answerOf (modulesIn bytes) memory x)

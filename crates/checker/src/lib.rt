@@ -1,17 +1,22 @@
 // The C boundary: each call's answer as one number of 64 bits. The lowest byte is the kind: 0 answered, 255 over, else the refusal number.
 // Above it stands a refusal's place, or the figures.
 ghost use mathlib.Core.Path.{_≡_};
-ghost use Prim.Native.Nat.{_<_, _≤_};
+ghost use mathlib.Core.List.{List};
+ghost use Prim.Native.Nat.{ℕ, _<_, _≤_};
 ghost use Rattle.model.specs.Limits.{maxBytes};
 ghost use Rattle.format.specs.Judgement.{judgement};
 ghost use Rattle.query.specs.Query.{ModeAnswer, StateAnswer, ModuleAnswer, QuickAnswer};
 ghost use Rattle.demand.specs.Demanded.{answerOf as demanded};
 ghost use Rattle.quick.specs.Quick.{answerOf as tested};
-ghost use Rattle.checker.specs.Numbers.{refusedNumber, acceptedNumber, judgedNumber, figureNumber, quickNumber};
-ghost use Rattle.checker.specs.Calls.{Numbered, Worked, Placed};
+ghost use Rattle.exact.specs.Exact.{answerOf as witnessed, ExactTested};
+ghost use Rattle.report.specs.Report.{answerOf as reported, Reported};
+ghost use Rattle.checker.specs.Numbers.{refusedNumber, acceptedNumber, judgedNumber, figureNumber, quickNumber, exactNumber, exactOf};
+ghost use Rattle.checker.specs.Calls.{Numbered, Worked, Placed, Fits, Held};
 use demand::Demand;
+use exact::Exact;
 use judge::Judged;
 use quick::Quick;
+use report::Report;
 
 // The number of a refusal.
 fn refused(number: u8, place: usize) -> u64
@@ -50,6 +55,32 @@ fn quick_number(answer: Quick) -> u64
         Quick::Refused { number, place } => refused(number, place),
         Quick::Clear => 0,
         Quick::Over(excess) => { 255 + 256 * (excess.length as u64 + 65536 * excess.demand as u64) }
+    }
+}
+
+// The number of what the exact test says, whatever memory its tapes lie in.
+fn exact_number(answer: Exact) -> u64
+    requires { ⌜ Fits answer ⌝ }
+    ensures { λ r. ⌜ ((n : ℕ) (memory : List ℕ) → r ≡ exactNumber (witnessed n memory answer)) ⌝ }
+{
+    match answer {
+        Exact::Refused { number, place } => refused(number, place),
+        Exact::Clear => 0,
+        Exact::Over(x) => {
+            let upper = x.end as u64 + 65536 * x.demand as u64;
+            255 + 256 * (x.start as u64 + 65536 * upper)
+        }
+    }
+}
+
+// The number of a report: how many bytes are written.
+fn report_number(answer: Report) -> u64
+    requires { ⌜ Held (reported answer) ⌝ }
+    ensures { λ r. ⌜ r ≡ figureNumber (reported answer) ⌝ }
+{
+    match answer {
+        Report::Refused { number, place } => refused(number, place),
+        Report::Written { count } => 256 * count as u64,
     }
 }
 
@@ -119,4 +150,25 @@ pub extern "C" fn tyvasuri_quick_test(sheet: &[u8], work: &mut [u32]) -> u64
     ensures { λ r. ⌜ Numbered quickNumber (Worked (QuickAnswer (now (sheet .entry))) (now (work .entry)) (now (work .exit))) r ⌝ }
 {
     quick_number(quick::quick_test(sheet, work))
+}
+
+/// The exact test: where it is over, the start and the end of the first such interval in 16 bits each, and its demand; its tapes lie in the tape memory.
+#[no_mangle]
+pub extern "C" fn tyvasuri_exact_test(sheet: &[u8], work: &mut [u32], tape: &mut [u8]) -> u64
+    ensures { λ r. ⌜ Numbered (exactOf (now (sheet .entry)) (now (tape .exit))) (ExactTested (now (sheet .entry)) (now (work .entry)) (now (work .exit)) (now (tape .entry)) (now (tape .exit))) r ⌝ }
+{
+    exact_number(exact::exact_test(sheet, work, tape))
+}
+
+/// The report: how many bytes of the output memory it takes, from its beginning.
+#[no_mangle]
+pub extern "C" fn tyvasuri_report(
+    sheet: &[u8],
+    work: &mut [u32],
+    tape: &mut [u8],
+    out: &mut [u8],
+) -> u64
+    ensures { λ r. ⌜ Numbered (λ x. figureNumber (reported x)) (Reported (now (sheet .entry)) (now (work .entry)) (now (work .exit)) (now (tape .entry)) (now (tape .exit)) (now (out .entry)) (now (out .exit))) r ⌝ }
+{
+    report_number(report::write_report(sheet, work, tape, out))
 }
