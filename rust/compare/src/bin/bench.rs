@@ -1,12 +1,14 @@
 //! Times the quick and the exact test of the archive and of the second implementation on the
 //! sheets of `bench/sheets`, and prints the times as tables:
 //!
-//! `cargo run --release --bin bench`
+//! `cargo run --release --bin bench [-- NAME ...]`
+//!
+//! Without names all sheets are timed.
 
 use compare::answer::Answer;
 use compare::sheets::folder;
 use second::{Exact, WORK_LEN};
-use std::path::PathBuf;
+use std::path::{Path, PathBuf};
 use std::time::{Duration, Instant};
 use std::{fs, io};
 use tyvasuri::Sheet;
@@ -50,18 +52,25 @@ fn main() -> io::Result<()> {
     Ok(())
 }
 
-/// The sheets' files, by name.
+/// The sheets' files, by name: those that the arguments name, or all.
 fn paths() -> io::Result<Vec<PathBuf>> {
+    let named: Vec<String> = std::env::args().skip(1).collect();
     let files = fs::read_dir(folder())?.map(|entry| Ok(entry?.path()));
     let mut paths = files.collect::<io::Result<Vec<PathBuf>>>()?;
     paths.retain(|path| path.extension().is_some_and(|ending| ending == "sheet"));
+    paths.retain(|path| named.is_empty() || named.contains(&stem(path)));
     paths.sort();
     Ok(paths)
 }
 
-fn time_sheet(path: &PathBuf) -> io::Result<Times> {
+/// A file's name without its ending.
+fn stem(path: &Path) -> String {
+    path.file_stem().unwrap_or_default().to_string_lossy().into_owned()
+}
+
+fn time_sheet(path: &Path) -> io::Result<Times> {
     let bytes = fs::read(path)?;
-    let name = path.file_stem().unwrap_or_default().to_string_lossy().into_owned();
+    let name = stem(path);
     eprintln!("{name}");
     let exact = HORIZONS.map(|horizon| time_exact(&with_horizon(&bytes, horizon)));
     Ok(Times { name, quick: time_quick(&bytes), exact })
