@@ -3,10 +3,11 @@
 use compare::comparison::{Alike, Comparison};
 use compare::faults::cuts;
 use compare::query::Query;
+use compare::sheets::mode;
 use compare::tally::Tally;
 use compare::wanted::{Wanted, Way};
 use second::generate::{damaged, sheet, Damage, Rng, Shape};
-use second::{encode, judge};
+use second::{encode, judge, Exact, Module, Sheet};
 
 const SHEET_A: &[u8] = include_bytes!("../../../examples/a_two_modules.sheet");
 
@@ -116,6 +117,24 @@ fn refused_lines() {
         if let Err(refusal) = tyvasuri::judge(&bytes) {
             assert_eq!(format!("{}\n", refusal.line()).into_bytes(), second::report(&bytes));
         }
+    }
+}
+
+/// A tape that comes back to mode 0 at its last tick, where to begin mode 1 again (period 2), or
+/// to stay in it (period 8), is worth as much.
+#[test]
+fn first_in_dictionary_order() {
+    for period in [2, 8] {
+        let there_and_back =
+            vec![mode(4, &[], &[[1, 4]]), mode(period, &[[0, 2, 2, 2]], &[[0, 2]])];
+        let steady = vec![mode(16, &[[0, 6, 9, 16]], &[])];
+        let modules = [there_and_back, steady].map(|modes| Module { modes }).to_vec();
+        let bytes = encode(&Sheet { horizon: 12, modules });
+        let wanted = Wanted::new(&bytes, Way::Literal);
+        let tapes = vec![vec![0, 0, 0, 0, 1, 1, 1, 1, 0], vec![0; 9]];
+        assert_eq!(*wanted.exact(), Exact::Over { a: 0, b: 9, demand: 10, tapes });
+        let query = Query::ExactTest { work: 16_384, tape: 24 };
+        alike(Comparison::default().call(&bytes, &wanted, &query));
     }
 }
 

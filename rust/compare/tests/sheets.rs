@@ -1,7 +1,10 @@
 //! The files of the benchmark's sheets: they are what the generator makes, and the second
 //! implementation gives the verdicts that `bench/README.md` names.
 
+use compare::comparison::Comparison;
 use compare::sheets::{all, folder};
+use compare::wanted::Way;
+use second::generate::Rng;
 use second::{encode, report};
 
 const VERDICTS: [(&str, [&str; 2]); 5] = [
@@ -31,6 +34,18 @@ fn verdicts_are_as_named() {
         let row = readme.lines().find(|line| line.starts_with(&format!("| `{name}.sheet`")));
         assert!(row.is_some_and(|row| wanted.iter().all(|verdict| row.contains(verdict))));
     }
+}
+
+/// Every call on the sheets that are not made to be hard: late ends and long tapes.
+#[test]
+fn both_sides_agree() {
+    let mut comparison = Comparison::default();
+    for (name, sheet) in &all()[..3] {
+        let bytes = encode(sheet);
+        let compared = comparison.every_call(&mut Rng::new(0), &bytes, Way::Table, sheet);
+        assert_eq!(compared, Ok(()), "{name}");
+    }
+    assert_eq!(comparison.tally.longest_tape, 1680);
 }
 
 #[test]

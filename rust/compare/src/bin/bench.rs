@@ -15,7 +15,7 @@ use tyvasuri::Sheet;
 
 /// A time is the best of at most so many calls.
 const MOST_CALLS: usize = 25;
-/// No further call is begun after so long.
+/// No further call is begun after so long a time of calls.
 const MOST_TIME: Duration = Duration::from_secs(10);
 /// The horizons of the exact test; the last is that of the sheets.
 const HORIZONS: [u16; 3] = [500, 1000, 2000];
@@ -40,9 +40,10 @@ fn main() -> io::Result<()> {
         times.push(time_sheet(&path)?);
     }
     println!(
-        "Each time is the best of at most {MOST_CALLS} calls, none begun after {} s, by the wall \
-         clock in one thread. Both sides ran in this one run, built for release, on {} {}. A call \
-         judges the sheet and works out the answer; the lent memory is not cleared between calls.",
+        "Each time is the best of at most {MOST_CALLS} calls, none begun after {} s of calls, by \
+         the wall clock. Both sides were built for release and ran in one thread of this one run, \
+         call by call in turn, on {} {}. A call judges the sheet and works out the answer; the lent \
+         memory is not cleared between calls.",
         MOST_TIME.as_secs(),
         std::env::consts::ARCH,
         std::env::consts::OS
@@ -87,7 +88,7 @@ fn time_quick(bytes: &[u8]) -> Timed {
     let mut work = vec![0; Sheet::WORK_LEN];
     let archive = || tyvasuri::quick_test(bytes, &mut work).map_or_else(Answer::from, Answer::from);
     let second = || second::quick(bytes, WORK_LEN).map_or_else(Answer::Refused, Answer::Quick);
-    timed(best(archive), best(second))
+    time_both(archive, second)
 }
 
 fn time_exact(bytes: &[u8]) -> Timed {
@@ -98,31 +99,52 @@ fn time_exact(bytes: &[u8]) -> Timed {
     };
     let second =
         || second::exact(bytes, WORK_LEN, tape_len).map_or_else(Answer::Refused, Answer::Exact);
-    timed(best(archive), best(second))
+    time_both(archive, second)
 }
 
-/// The shortest of several calls, and what they answer.
-fn best(mut call: impl FnMut() -> Answer) -> (Duration, Answer) {
-    let begun = Instant::now();
-    let mut once = || {
-        let start = Instant::now();
-        let answer = call();
-        (start.elapsed(), answer)
-    };
-    let (mut shortest, answer) = once();
+/// Times both sides, whose answers have to be the same. Their calls take turns, so that other load
+/// bears on both alike.
+fn time_both(archive: impl FnMut() -> Answer, second: impl FnMut() -> Answer) -> Timed {
+    let (mut archive, mut second) = (Side::of(archive), Side::of(second));
     for _ in 1..MOST_CALLS {
-        if begun.elapsed() > MOST_TIME {
-            break;
-        }
-        shortest = shortest.min(once().0);
+        archive.call_again();
+        second.call_again();
     }
-    (shortest, answer)
+    let (given, wanted) = (archive.answer, second.answer);
+    assert!(given == wanted, "the archive says {given}, the second implementation {wanted}");
+    Timed { verdict: words(&given), archive: archive.shortest, second: second.shortest }
 }
 
-/// Both sides' times, if their answers are the same.
-fn timed((archive, answer): (Duration, Answer), (second, wanted): (Duration, Answer)) -> Timed {
-    assert!(answer == wanted, "the archive says {answer}, the second implementation {wanted}");
-    Timed { verdict: words(&answer), archive, second }
+/// One side's calls so far: the shortest time, the time of all, and the answer.
+struct Side<F> {
+    call: F,
+    shortest: Duration,
+    spent: Duration,
+    answer: Answer,
+}
+
+impl<F: FnMut() -> Answer> Side<F> {
+    /// After the first call.
+    fn of(mut call: F) -> Side<F> {
+        let (time, answer) = timed(&mut call);
+        Side { call, shortest: time, spent: time, answer }
+    }
+
+    /// Calls once more, unless the time for it is over.
+    fn call_again(&mut self) {
+        if self.spent < MOST_TIME {
+            let (time, _) = timed(&mut self.call);
+            self.shortest = self.shortest.min(time);
+            self.spent += time;
+        }
+    }
+}
+
+/// How long a call takes, and its answer.
+fn timed(call: &mut impl FnMut() -> Answer) -> (Duration, Answer) {
+    let start = Instant::now();
+    let answer = call();
+    (start.elapsed(), answer)
 }
 
 /// The verdict without its tapes.
