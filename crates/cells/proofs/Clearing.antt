@@ -8,7 +8,7 @@ use lib.Seq.{getD-append-add, length-take-le}
 use borrow.Rule.Slice.PartMut.{putMid, midOf, postOf, same-len-mid}
 use Rattle.model.specs.Limits.{workNumbers}
 use Rattle.layers.specs.Step.{look, Cleared}
-use Rattle.layers.proofs.Parts.{part-length, back-below, back-above}
+use Rattle.layers.proofs.Parts.{part-length, back-here, back-below, back-above}
 use Rattle.cells.specs.Cells.{cellsFrom, CellsCleared}
 
 module _ (w ys : List ℕ) (room : workNumbers ≤ length w) (c : Cleared 5687 (midOf cellsFrom 5687 w) ys) where
@@ -17,9 +17,8 @@ module _ (w ys : List ℕ) (room : workNumbers ≤ length w) (c : Cleared 5687 (
 
   back-cell : (x : ℕ) → cellsFrom ≤ x → x < workNumbers → look (putMid cellsFrom 5687 w ys) x ≡ look ys (x - cellsFrom)
   back-cell x a b =
-      let e : x ≡ length (take cellsFrom w) + (x - cellsFrom) = omega (arith, length-take-le cellsFrom w (omega arith)) in
-      ap (look (putMid cellsFrom 5687 w ys)) e ∙ getD-append-add (take cellsFrom w) (ys ++ postOf cellsFrom 5687 w) (x - cellsFrom) 0
-      ∙ List·getD-append ys (postOf cellsFrom 5687 w) 0 (x - cellsFrom) (omega (arith, size))
+      let e : x ≡ cellsFrom + (x - cellsFrom) = omega arith in
+      ap (look (putMid cellsFrom 5687 w ys)) e ∙ back-here w cellsFrom 5687 room ys size (x - cellsFrom) (omega arith)
 
   pub cells-cleared : CellsCleared w (putMid cellsFrom 5687 w ys)
   cells-cleared = record {

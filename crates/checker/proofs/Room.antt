@@ -14,7 +14,7 @@ use Rattle.model.proofs.Verdicts.{quick-is, exact-is}
 use Rattle.query.specs.Answer.{Answer, refused, given, Answered}
 use Rattle.lines.specs.Lines.{quickLine, exactLine, runLine, runLines, witnessLines, sheetLines}
 use Rattle.following.proofs.Tapes.{tape-length}
-use Rattle.writing.proofs.Lengths.{sheet-line, quick-clear-length, exact-clear-length, run-length}
+use Rattle.writing.proofs.Lengths.{quick-clear-length, exact-clear-length, run-length}
 use Rattle.report.specs.Report.{outBytes, reportTerms, Lines}
 use Rattle.report.proofs.Room.{sheet-room, quick-room, exact-room}
 use Rattle.checker.specs.Calls.{Held}
@@ -43,7 +43,7 @@ module _ (s : Sheet) (ok : WellFormed s) where
   lines-most : length (sheetLines s) ≤ outBytes
   unfolding sheetLines
   lines-most =
-      let head = rw (sheet-line s) at (sheet-room (counts s .modules) (counts s .modes) (counts s .tasks) (counts s .switches) (s .horizon) (omega arith) (omega (arith, modes-most s ok)) (omega arith) (omega arith) (omega arith)) in
+      let head = (sheet-room (counts s .modules) (counts s .modes) (counts s .tasks) (counts s .switches) (s .horizon) (omega arith) (omega (arith, modes-most s ok)) (omega arith) (omega arith) (omega arith)) in
       simp length-append (omega (arith, head, quick-most (quick s) (quick-is s ok), exact-most (exact s) (exact-is s ok)))
 
 pub report-held : (bytes : List ℕ) (work tape out : ℕ) (o : List ℕ) (a : Answer ℕ) → Answered (reportTerms work tape out) (λ s n. Lines s o n) bytes a → Held a

@@ -35,9 +35,6 @@ use Rattle.exact.specs.Asking.{Asks, sound}
 
 -- The tests of an accepted sheet.
 module _ (bytes : List ℕ) (modules modes tasks switches horizon work tape : ℕ) (told : AcceptedWith bytes modules modes tasks switches horizon) where
-  enough : Bool
-  enough = leb workNumbers work && leb (modules * horizon) tape
-
   pub asks-tested : {r : Asked} → r ≡ sound (leb workNumbers work && leb (modules * horizon) tape) modules horizon → Asks (exactTerms work tape) bytes r
   asks-tested {r} e = rw e (pick (leb workNumbers work && leb (modules * horizon) tape) refl)
     where

@@ -9,7 +9,7 @@ ghost use Rattle.model.specs.Verdict.{exact};
 ghost use Rattle.format.specs.Judgement.{sheetIn, Accepted};
 ghost use Rattle.query.specs.Query.{exactTerms};
 ghost use Rattle.query.specs.Memory.{Stays};
-ghost use Rattle.table.specs.Rows.{Rows, periodAt, switchPeriodAt, switchListedAt};
+ghost use Rattle.table.specs.Rows.{RowsOf};
 ghost use Rattle.cells.specs.Cells.{foundOf};
 ghost use Rattle.search.specs.Search.{QuickSums};
 ghost use Rattle.quick.specs.Asking.{Sound};
@@ -94,7 +94,7 @@ fn first_interval(
     requires { ⌜ Accepted (now sheet) ⌝ }
     requires { ⌜ modules ≡ count (sheetIn (now sheet) .modules) ⌝ }
     requires { ⌜ horizon ≡ sheetIn (now sheet) .horizon ⌝ }
-    requires { ⌜ (Rows 0 8 periodAt (sheetIn (now sheet)) periods) × (Rows 0 64 switchPeriodAt (sheetIn (now sheet)) every) × (Rows false 64 switchListedAt (sheetIn (now sheet)) listed) ⌝ }
+    requires { ⌜ RowsOf (sheetIn (now sheet)) periods every listed ⌝ }
     requires { ⌜ (workNumbers ≤ count (now work)) × (QuickSums (sheetIn (now sheet)) (now work)) ⌝ }
     ensures { λ r. ⌜ (foundOf r ≡ exact (sheetIn (now (sheet .entry)))) × (Stays workNumbers (now (work .entry)) (now (work .exit))) ⌝ }
 {

@@ -36,7 +36,7 @@ module _ (w : List ℕ) (a p : ℕ) (fits : a + p ≤ length w) where
       let l : length (take a w) ≡ a = length-take-le a w (omega arith) in
       List·getD-append (take a w) (ys ++ postOf a (a + p - a) w) 0 x (omega arith) ∙ getD-take a w x 0 h
 
-  back-here : (ys : List ℕ) → length ys ≡ p → (d : ℕ) → d < p → look (putMid a (a + p - a) w ys) (a + d) ≡ look ys d
+  pub back-here : (ys : List ℕ) → length ys ≡ p → (d : ℕ) → d < p → look (putMid a (a + p - a) w ys) (a + d) ≡ look ys d
   back-here ys e d h =
       let l : length (take a w) ≡ a = length-take-le a w (omega arith) in
       ap (λ (n : ℕ). look (putMid a (a + p - a) w ys) (n + d)) (sym l) ∙ getD-append-add (take a w) (ys ++ postOf a (a + p - a) w) d 0

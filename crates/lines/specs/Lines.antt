@@ -16,13 +16,16 @@ ascii (String._∷_ c s) = code c ∷ ascii s
 unfoldable pub refusedLine : ℕ → ℕ → List ℕ
 refusedLine n p = ascii "refused " ++ decimal n ++ ascii " at " ++ decimal p ++ ascii "\n"
 
-unfoldable pub sheetLine : Sheet → List ℕ
-sheetLine s =
-    ascii "sheet modules " ++ decimal (counts s .modules)
-    ++ ascii " modes " ++ decimal (counts s .modes)
-    ++ ascii " tasks " ++ decimal (counts s .tasks)
-    ++ ascii " switches " ++ decimal (counts s .switches)
-    ++ ascii " horizon " ++ decimal (s .horizon) ++ ascii "\n"
+unfoldable pub sheetLineOf : ℕ → ℕ → ℕ → ℕ → ℕ → List ℕ
+sheetLineOf modules modes tasks switches horizon =
+    ascii "sheet modules " ++ decimal modules
+    ++ ascii " modes " ++ decimal modes
+    ++ ascii " tasks " ++ decimal tasks
+    ++ ascii " switches " ++ decimal switches
+    ++ ascii " horizon " ++ decimal horizon ++ ascii "\n"
+
+abbrev pub sheetLine : Sheet → List ℕ
+sheetLine s = sheetLineOf (counts s .modules) (counts s .modes) (counts s .tasks) (counts s .switches) (s .horizon)
 
 unfoldable pub quickLine : Quick → List ℕ
 quickLine clear = ascii "quick clear\n"

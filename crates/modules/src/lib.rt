@@ -6,7 +6,7 @@ ghost use lib.ListN.{length};
 ghost use Rattle.model.specs.Sheet.{moduleAt};
 ghost use Rattle.format.specs.Judgement.{sheetIn, Accepted};
 ghost use Rattle.layers.specs.Layer.{Told};
-ghost use Rattle.table.specs.Rows.{Rows, periodAt, switchPeriodAt, switchListedAt};
+ghost use Rattle.table.specs.Rows.{RowsOf};
 
 /// A module's shape, and its tasks as numbers.
 pub struct Engine {
@@ -24,7 +24,7 @@ pub fn engine_of(
 ) -> Engine
     requires { ⌜ Accepted (now sheet) ⌝ }
     requires { ⌜ (k < 8) × (k < length (sheetIn (now sheet) .modules)) ⌝ }
-    requires { ⌜ (Rows 0 8 periodAt (sheetIn (now sheet)) periods) × (Rows 0 64 switchPeriodAt (sheetIn (now sheet)) every) × (Rows false 64 switchListedAt (sheetIn (now sheet)) listed) ⌝ }
+    requires { ⌜ RowsOf (sheetIn (now sheet)) periods every listed ⌝ }
     ensures { λ r. ⌜ Told (moduleAt (sheetIn (now (sheet .entry))) k) (r .shape) (r .numbers) ⌝ }
 {
     let modes = place::modes_at(sheet, place::module_place(sheet, k));

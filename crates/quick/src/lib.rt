@@ -7,7 +7,7 @@ ghost use Rattle.model.specs.Limits.{workNumbers};
 ghost use Rattle.format.specs.Judgement.{sheetIn, Accepted};
 ghost use Rattle.query.specs.Answer.{given};
 ghost use Rattle.query.specs.Query.{quickTerms};
-ghost use Rattle.table.specs.Rows.{Rows, periodAt, switchPeriodAt, switchListedAt};
+ghost use Rattle.table.specs.Rows.{RowsOf};
 ghost use Rattle.sums.specs.Sums.{Fits, quickOf};
 ghost use Rattle.quick.specs.Quick.{answerOf, QuickTested};
 ghost use Rattle.quick.specs.Sums.{ModuleAdded, SumsOf};
@@ -52,7 +52,7 @@ fn add_module(
     requires { ⌜ Accepted (now sheet) ⌝ }
     requires { ⌜ k < count (sheetIn (now sheet) .modules) ⌝ }
     requires { ⌜ horizon ≡ sheetIn (now sheet) .horizon ⌝ }
-    requires { ⌜ (Rows 0 8 periodAt (sheetIn (now sheet)) periods) × (Rows 0 64 switchPeriodAt (sheetIn (now sheet)) every) × (Rows false 64 switchListedAt (sheetIn (now sheet)) listed) ⌝ }
+    requires { ⌜ RowsOf (sheetIn (now sheet)) periods every listed ⌝ }
     requires { ⌜ (workNumbers ≤ count (now work)) × (Fits horizon (now work)) ⌝ }
     ensures { λ _. ⌜ ModuleAdded (sheetIn (now (sheet .entry))) k (now (work .entry)) (now (work .exit)) ⌝ }
 {
@@ -75,7 +75,7 @@ pub fn quick_sums(
     requires { ⌜ Accepted (now sheet) ⌝ }
     requires { ⌜ modules ≡ count (sheetIn (now sheet) .modules) ⌝ }
     requires { ⌜ horizon ≡ sheetIn (now sheet) .horizon ⌝ }
-    requires { ⌜ (Rows 0 8 periodAt (sheetIn (now sheet)) periods) × (Rows 0 64 switchPeriodAt (sheetIn (now sheet)) every) × (Rows false 64 switchListedAt (sheetIn (now sheet)) listed) ⌝ }
+    requires { ⌜ RowsOf (sheetIn (now sheet)) periods every listed ⌝ }
     requires { ⌜ workNumbers ≤ count (now work) ⌝ }
     ensures { λ _. ⌜ SumsOf (sheetIn (now (sheet .entry))) (now (work .entry)) (now (work .exit)) ⌝ }
 {

@@ -19,10 +19,9 @@ use Rattle.query.specs.Query.{Witnessed, quickTerms, exactTerms, tapesFor, witn
 use Rattle.query.specs.Memory.{Stays}
 use Rattle.query.proofs.Answers.{quick-answer, quick-answer-unique, exact-answer, exact-answer-unique}
 use Rattle.query.proofs.Meeting.{met-given, memory-refused, stays-more}
-use Rattle.lines.specs.Lines.{quickLine, exactLine, runLines, witnessLines, sheetLines}
-use Rattle.writing.specs.Writing.{Put, sheetLineOf}
+use Rattle.lines.specs.Lines.{quickLine, exactLine, runLines, witnessLines, sheetLines, sheetLineOf}
+use Rattle.writing.specs.Writing.{Put}
 use Rattle.writing.proofs.Writing.{put-more, put-two}
-use Rattle.writing.proofs.Lengths.{sheet-line}
 use Rattle.quick.specs.declared.Quick.{Quick}
 use Rattle.quick.specs.Quick as quick
 use Rattle.quick.specs.Quick.{QuickTested}
@@ -46,7 +45,7 @@ module _ (bytes : List ℕ) (modules modes tasks switches horizon work tape out 
   is-sound e q = record {
     met = record { accepted = told .is-accepted; in-range = refl; enough = sym (e ∙ same) ∙ q };
     modules-are = told .modules-are;
-    line-is = rw (told .modules-are, told .modes-are, told .tasks-are, told .switches-are, told .horizon-is) (sheet-line (sheetIn bytes));
+    line-is = rw (told .modules-are, told .modes-are, told .tasks-are, told .switches-are, told .horizon-is);
   }
 
   pub is-short : {r : Bool} → r ≡ leb workNumbers work && leb (modules * horizon) tape && leb outBytes out → r ≡ false → RefusedWith ℕ (reportTerms work tape out) bytes 10 0

@@ -4,8 +4,7 @@ use Prim.Native.Nat.{ℕ, _+_, _^_, _≤_, _<_}
 use native.Mathlib.Omega.{arith}
 use lib.ListN.{length}
 use Rattle.model.specs.Verdict.{Quick, Exact}
-use Rattle.lines.specs.Lines.{quickLine, exactLine}
-use Rattle.writing.specs.Writing.{sheetLineOf}
+use Rattle.lines.specs.Lines.{quickLine, exactLine, sheetLineOf}
 use Rattle.writing.proofs.Lengths.{sheet-length, quick-length, exact-length}
 
 five : (n : ℕ) → n < 65536 → n < 10 ^ 5

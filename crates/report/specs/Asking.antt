@@ -5,8 +5,7 @@ use Prim.Native.Nat.{ℕ}
 use lib.ListN.{length}
 use Rattle.format.specs.Judgement.{sheetIn}
 use Rattle.query.specs.Answer.{Terms, Meets, RefusedWith}
-use Rattle.lines.specs.Lines.{sheetLine}
-use Rattle.writing.specs.Writing.{sheetLineOf}
+use Rattle.lines.specs.Lines.{sheetLine, sheetLineOf}
 use Rattle.report.specs.declared.Asked.{Asked}
 use Rattle.report.specs.declared.Asked.the-variants as asked
 

@@ -6,7 +6,7 @@ ghost use lib.ListN.{length};
 ghost use Rattle.model.specs.Limits.{workNumbers};
 ghost use Rattle.model.specs.Verdict.{exactFrom, exactSum, exact};
 ghost use Rattle.format.specs.Judgement.{sheetIn, Accepted};
-ghost use Rattle.table.specs.Rows.{Rows, periodAt, switchPeriodAt, switchListedAt};
+ghost use Rattle.table.specs.Rows.{RowsOf};
 ghost use Rattle.cells.specs.Cells.{Tile};
 ghost use Rattle.search.specs.Search.{QuickSums, CellsOf, Filled, Searched};
 use cells::Found;
@@ -24,7 +24,7 @@ fn add_module(
 )
     requires { ⌜ Accepted (now sheet) ⌝ }
     requires { ⌜ k < length (sheetIn (now sheet) .modules) ⌝ }
-    requires { ⌜ (Rows 0 8 periodAt (sheetIn (now sheet)) periods) × (Rows 0 64 switchPeriodAt (sheetIn (now sheet)) every) × (Rows false 64 switchListedAt (sheetIn (now sheet)) listed) ⌝ }
+    requires { ⌜ RowsOf (sheetIn (now sheet)) periods every listed ⌝ }
     requires { ⌜ (CellsOf (sheetIn (now sheet)) k lo width (now work)) × (Tile (now work) lo width) ⌝ }
     ensures { λ _. ⌜ Filled (sheetIn (now (sheet .entry))) (k + 1) lo width (now (work .entry)) (now (work .exit)) ⌝ }
 {
@@ -47,7 +47,7 @@ fn fill_tile(
 )
     requires { ⌜ Accepted (now sheet) ⌝ }
     requires { ⌜ modules ≡ length (sheetIn (now sheet) .modules) ⌝ }
-    requires { ⌜ (Rows 0 8 periodAt (sheetIn (now sheet)) periods) × (Rows 0 64 switchPeriodAt (sheetIn (now sheet)) every) × (Rows false 64 switchListedAt (sheetIn (now sheet)) listed) ⌝ }
+    requires { ⌜ RowsOf (sheetIn (now sheet)) periods every listed ⌝ }
     requires { ⌜ Tile (now work) lo width ⌝ }
     ensures { λ _. ⌜ Filled (sheetIn (now (sheet .entry))) modules lo width (now (work .entry)) (now (work .exit)) ⌝ }
 {
@@ -72,7 +72,7 @@ fn search_tile(
 ) -> Found
     requires { ⌜ Accepted (now sheet) ⌝ }
     requires { ⌜ modules ≡ length (sheetIn (now sheet) .modules) ⌝ }
-    requires { ⌜ (Rows 0 8 periodAt (sheetIn (now sheet)) periods) × (Rows 0 64 switchPeriodAt (sheetIn (now sheet)) every) × (Rows false 64 switchListedAt (sheetIn (now sheet)) listed) ⌝ }
+    requires { ⌜ RowsOf (sheetIn (now sheet)) periods every listed ⌝ }
     requires { ⌜ (Tile (now work) lo width) × (lo + width ≤ sheetIn (now sheet) .horizon + 1) × (QuickSums (sheetIn (now sheet)) (now work)) ⌝ }
     ensures { λ r. ⌜ Searched (exactFrom (exactSum (sheetIn (now (sheet .entry)))) width lo) r (now (work .entry)) (now (work .exit)) ⌝ }
 {
@@ -94,7 +94,7 @@ pub fn search(
     requires { ⌜ Accepted (now sheet) ⌝ }
     requires { ⌜ modules ≡ length (sheetIn (now sheet) .modules) ⌝ }
     requires { ⌜ horizon ≡ sheetIn (now sheet) .horizon ⌝ }
-    requires { ⌜ (Rows 0 8 periodAt (sheetIn (now sheet)) periods) × (Rows 0 64 switchPeriodAt (sheetIn (now sheet)) every) × (Rows false 64 switchListedAt (sheetIn (now sheet)) listed) ⌝ }
+    requires { ⌜ RowsOf (sheetIn (now sheet)) periods every listed ⌝ }
     requires { ⌜ (workNumbers ≤ length (now work)) × (QuickSums (sheetIn (now sheet)) (now work)) ⌝ }
     ensures { λ r. ⌜ Searched (exact (sheetIn (now (sheet .entry)))) r (now (work .entry)) (now (work .exit)) ⌝ }
 {

@@ -1,6 +1,6 @@
 -- Rows of figures, one row for each module of a sheet value. Assumes nothing.
 use mathlib.Core.Path.{_≡_}
-use mathlib.Core.Bool.{Bool, cond}
+use mathlib.Core.Bool.{Bool, false, cond}
 use mathlib.Core.List.{List, [], _∷_, map}
 use Prim.Native.Nat.{ℕ, suc, _/_, _%_, _<_}
 use lib.Dec.{eqb}
@@ -41,3 +41,7 @@ switchPeriodAt m i = periodTo (i % 8) (modeAt m (i / 8) .switches)
 -- at 8 * j + t: whether the mode j lists the mode t
 abbrev pub switchListedAt : Module → ℕ → Bool
 switchListedAt m i = named (i % 8) (modeAt m (i / 8) .switches)
+
+-- the rows of the sheet's periods, of its switch periods, and of what its modes list
+abbrev pub RowsOf : Sheet → List (List ℕ) → List (List ℕ) → List (List Bool) → Type 0
+RowsOf s periods every listed = (Rows 0 8 periodAt s periods) × (Rows 0 64 switchPeriodAt s every) × (Rows false 64 switchListedAt s listed)

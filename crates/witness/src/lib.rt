@@ -7,7 +7,7 @@ ghost use Rattle.model.specs.Limits.{maxHorizon, workNumbers};
 ghost use Rattle.model.specs.Sheet.{moduleAt};
 ghost use Rattle.format.specs.Judgement.{sheetIn, Accepted};
 ghost use Rattle.query.specs.Memory.{Stays};
-ghost use Rattle.table.specs.Rows.{Rows, periodAt, switchPeriodAt, switchListedAt};
+ghost use Rattle.table.specs.Rows.{RowsOf};
 ghost use Rattle.witness.specs.Witness.{WitnessWritten, WrittenAt};
 
 // The tape of the module k: the tape memory from byte k × b onward is lent to its writer.
@@ -24,7 +24,7 @@ fn write_module_tape(
 )
     requires { ⌜ Accepted (now sheet) ⌝ }
     requires { ⌜ k < length (sheetIn (now sheet) .modules) ⌝ }
-    requires { ⌜ (Rows 0 8 periodAt (sheetIn (now sheet)) periods) × (Rows 0 64 switchPeriodAt (sheetIn (now sheet)) every) × (Rows false 64 switchListedAt (sheetIn (now sheet)) listed) ⌝ }
+    requires { ⌜ RowsOf (sheetIn (now sheet)) periods every listed ⌝ }
     requires { ⌜ (workNumbers ≤ length (now work)) × (b ≤ maxHorizon) × (k * b + b ≤ length (now tape)) ⌝ }
     ensures { λ _. ⌜ (WrittenAt (k * b) (moduleAt (sheetIn (now (sheet .entry))) k) a b (now (tape .entry)) (now (tape .exit))) × (Stays workNumbers (now (work .entry)) (now (work .exit))) ⌝ }
 {
@@ -50,7 +50,7 @@ pub fn write_tapes(
 )
     requires { ⌜ Accepted (now sheet) ⌝ }
     requires { ⌜ modules ≡ length (sheetIn (now sheet) .modules) ⌝ }
-    requires { ⌜ (Rows 0 8 periodAt (sheetIn (now sheet)) periods) × (Rows 0 64 switchPeriodAt (sheetIn (now sheet)) every) × (Rows false 64 switchListedAt (sheetIn (now sheet)) listed) ⌝ }
+    requires { ⌜ RowsOf (sheetIn (now sheet)) periods every listed ⌝ }
     requires { ⌜ (workNumbers ≤ length (now work)) × (b ≤ maxHorizon) × (modules * b ≤ length (now tape)) ⌝ }
     ensures { λ _. ⌜ (WitnessWritten (sheetIn (now (sheet .entry))) a b (now (tape .entry)) (now (tape .exit))) × (Stays workNumbers (now (work .entry)) (now (work .exit))) ⌝ }
 {

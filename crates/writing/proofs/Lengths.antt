@@ -1,4 +1,4 @@
--- The line of a sheet by its numbers, and how long each line can be by the digits of its numbers. Assumes nothing.
+-- How long each line can be, by the digits of its numbers. Assumes nothing.
 use mathlib.Core.Path.{_≡_, refl}
 use mathlib.Core.List.{List}
 use Prim.Native.Nat.{ℕ, _+_, _*_, _^_, _≤_, _<_}
@@ -7,13 +7,8 @@ use lib.ListN.{length, length-append, length-map}
 use Rattle.model.specs.Sheet.{Sheet, counts}
 use Rattle.model.specs.Verdict.{Quick, Exact}
 use Rattle.lines.specs.Decimal.{digit}
-use Rattle.lines.specs.Lines.{refusedLine, sheetLine, quickLine, exactLine, runLine}
+use Rattle.lines.specs.Lines.{refusedLine, sheetLine, quickLine, exactLine, runLine, sheetLineOf}
 use Rattle.lines.proofs.Decimals.{decimal-length}
-use Rattle.writing.specs.Writing.{sheetLineOf}
-
-pub sheet-line : (s : Sheet) → sheetLineOf (counts s .modules) (counts s .modes) (counts s .tasks) (counts s .switches) (s .horizon) ≡ sheetLine s
-unfolding sheetLine sheetLineOf
-sheet-line s = refl
 
 pub quick-clear-length : length (quickLine Quick.clear) ≡ 12
 unfolding quickLine

@@ -4,8 +4,6 @@ use mathlib.Core.List.{List, _++_}
 use Prim.Native.Nat.{ℕ, _+_, _≤_}
 use lib.ListN.{length, take, drop}
 use Rattle.model.specs.Lists.{All}
-use Rattle.lines.specs.Decimal.{decimal}
-use Rattle.lines.specs.Lines.{ascii}
 
 -- o′ is o with the bytes xs from the place `at` on, and `next` is the place behind them
 pub record Put (at next : ℕ) (xs o o′ : List ℕ) : Type 0 where
@@ -17,12 +15,3 @@ pub record Put (at next : ℕ) (xs o o′ : List ℕ) : Type 0 where
 -- each mode of a tape is printed as one digit
 abbrev pub OneDigitEach : List ℕ → Type 0
 OneDigitEach tape = All (λ n. n ≤ 9) tape
-
--- the line of a sheet that has these counts and this horizon
-unfoldable pub sheetLineOf : ℕ → ℕ → ℕ → ℕ → ℕ → List ℕ
-sheetLineOf modules modes tasks switches horizon =
-    ascii "sheet modules " ++ decimal modules
-    ++ ascii " modes " ++ decimal modes
-    ++ ascii " tasks " ++ decimal tasks
-    ++ ascii " switches " ++ decimal switches
-    ++ ascii " horizon " ++ decimal horizon ++ ascii "\n"

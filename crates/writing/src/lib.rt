@@ -4,8 +4,8 @@ ghost use Prim.Native.Nat.{_+_, _≤_, _<_};
 ghost use lib.ListN.{length as count};
 ghost use Rattle.model.specs.Verdict.{Quick, Exact};
 ghost use Rattle.lines.specs.Decimal.{digit, decimal};
-ghost use Rattle.lines.specs.Lines.{ascii, refusedLine, quickLine, exactLine, runLine};
-ghost use Rattle.writing.specs.Writing.{Put, OneDigitEach, sheetLineOf};
+ghost use Rattle.lines.specs.Lines.{ascii, refusedLine, quickLine, exactLine, runLine, sheetLineOf};
+ghost use Rattle.writing.specs.Writing.{Put, OneDigitEach};
 
 // One byte.
 fn put_byte(out: &mut [u8], at: usize, byte: u8) -> usize

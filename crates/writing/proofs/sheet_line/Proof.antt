@@ -3,8 +3,7 @@ use native.Mathlib.Omega.{arith}
 use borrow.Author.Needs.{needs}
 use lib.ListN.{length-append}
 use Rattle.lines.specs.Decimal.{decimal}
-use Rattle.lines.specs.Lines.{ascii}
-use Rattle.writing.specs.Writing.{sheetLineOf}
+use Rattle.lines.specs.Lines.{ascii, sheetLineOf}
 use Rattle.writing.proofs.Writing.{put-two, put-five}
 use Rattle.writing.proofs.sheet_line.Statement.{statement}
 use Rattle.writing.proofs.sheet_line.Tie as tie
