@@ -1,11 +1,10 @@
 -- The cells, lent and back with zeros in their place. Assumes nothing.
 use mathlib.Core.Path.{_≡_, ap, _∙_}
-use mathlib.Core.List.{List, _++_}
+use mathlib.Core.List.{List}
 use Prim.Native.Nat.{ℕ, _+_, _-_, _≤_, _<_}
 use native.Mathlib.Omega.{arith}
-use lib.ListN.{length, take, List·getD-append}
-use lib.Seq.{getD-append-add, length-take-le}
-use borrow.Rule.Slice.PartMut.{putMid, midOf, postOf, same-len-mid}
+use lib.ListN.{length}
+use borrow.Rule.Slice.PartMut.{putMid, midOf, same-len-mid}
 use Rattle.model.specs.Limits.{workNumbers}
 use Rattle.layers.specs.Step.{look, Cleared}
 use Rattle.layers.proofs.Parts.{part-length, back-here, back-below, back-above}

@@ -1,6 +1,6 @@
 // The exact test: the first interval whose sum exceeds its length over runs from tick 0, and the tapes that show it.
 ghost use mathlib.Core.Path.{_≡_};
-ghost use mathlib.Core.Bool.{false, _&&_};
+ghost use mathlib.Core.Bool.{_&&_};
 ghost use Prim.Native.Nat.{_*_, _≤_};
 ghost use lib.Dec.{leb};
 ghost use lib.ListN.{length as count};

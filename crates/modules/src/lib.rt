@@ -1,7 +1,6 @@
 // One module of an accepted sheet, as the engine reads it.
 use layers::Shape;
 ghost use Prim.Native.Nat.{_<_};
-ghost use mathlib.Core.Bool.{false};
 ghost use lib.ListN.{length};
 ghost use Rattle.model.specs.Sheet.{moduleAt};
 ghost use Rattle.format.specs.Judgement.{sheetIn, Accepted};

@@ -1,6 +1,5 @@
 // The quick test: whether the sum of the modules' demands exceeds a length, and which length first.
 ghost use mathlib.Core.Path.{_≡_};
-ghost use mathlib.Core.Bool.{false};
 ghost use Prim.Native.Nat.{_<_, _≤_};
 ghost use lib.ListN.{length as count};
 ghost use Rattle.model.specs.Limits.{workNumbers};

@@ -1,6 +1,5 @@
 // The first interval up to the horizon that is over: the ends in tiles, and in each tile the sums over all modules.
 ghost use mathlib.Core.Path.{_≡_};
-ghost use mathlib.Core.Bool.{false};
 ghost use Prim.Native.Nat.{_+_, _≤_, _<_};
 ghost use lib.ListN.{length};
 ghost use Rattle.model.specs.Limits.{workNumbers};

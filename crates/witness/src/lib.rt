@@ -1,6 +1,5 @@
 // The witness of the exact test: the tapes of all modules, one after another in the tape memory.
 ghost use mathlib.Core.Path.{_≡_};
-ghost use mathlib.Core.Bool.{false};
 ghost use Prim.Native.Nat.{_+_, _*_, _<_, _≤_};
 ghost use lib.ListN.{length};
 ghost use Rattle.model.specs.Limits.{maxHorizon, workNumbers};

@@ -4,10 +4,9 @@ use mathlib.Core.List.{List}
 use Prim.Native.Nat.{ℕ, _+_, _*_, _^_, _≤_, _<_}
 use native.Mathlib.Omega.{arith}
 use lib.ListN.{length, length-append, length-map}
-use Rattle.model.specs.Sheet.{Sheet, counts}
 use Rattle.model.specs.Verdict.{Quick, Exact}
 use Rattle.lines.specs.Decimal.{digit}
-use Rattle.lines.specs.Lines.{refusedLine, sheetLine, quickLine, exactLine, runLine, sheetLineOf}
+use Rattle.lines.specs.Lines.{refusedLine, sheetLineOf, quickLine, exactLine, runLine}
 use Rattle.lines.proofs.Decimals.{decimal-length}
 
 pub quick-clear-length : length (quickLine Quick.clear) ≡ 12
