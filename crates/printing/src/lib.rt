@@ -1,35 +1,21 @@
-// Prints the report on a sheet, or why it is refused, to standard output.
-ghost use Rattle.io.specs.Counts.{Counts};
+// What the program prints for the bytes of a sheet: its report, or the line that says why it is refused.
+ghost use mathlib.Core.Path.{_≡_};
+ghost use Prim.Native.Nat.{_≤_};
+ghost use lib.ListN.{length as count, take};
+ghost use Rattle.model.specs.Limits.{workNumbers};
+ghost use Rattle.report.specs.Report.{outBytes};
+ghost use Rattle.printing.specs.Printed.{tapeBytes, Printed};
 use report::Report;
 
-fn print_refused(number: u8, place: usize) {
-    io::write_all(1, b"refused ");
-    io::print_decimal(1, number as u64);
-    io::write_all(1, b" at ");
-    io::print_decimal(1, place as u64);
-    io::write_all(1, b"\n");
-}
-
-// Never more than the output memory has.
-fn within(count: usize, out: &[u8]) -> usize
-    ensures { λ r. ⌜ Counts r (now (out .entry)) ⌝ }
+/// The lines for these bytes, from the beginning of the output memory on, and how many bytes they are.
+pub fn put_lines(sheet: &[u8], work: &mut [u32], tape: &mut [u8], out: &mut [u8]) -> usize
+    requires { ⌜ (workNumbers ≤ count (now work)) × (tapeBytes ≤ count (now tape)) × (outBytes ≤ count (now out)) ⌝ }
+    ensures { λ r. ⌜ Printed (now (sheet .entry)) (now (work .entry)) (now (work .exit)) (now (tape .entry)) (now (tape .exit)) (now (out .entry)) (now (out .exit)) r ⌝ }
+    ensures { λ r. ⌜ (r ≤ count (now (out .exit))) × (r ≡ count (take r (now (out .exit)))) ⌝ }
 {
-    if count < out.len() { count } else { out.len() }
-}
-
-fn print_lines(out: &[u8], count: usize) {
-    let n = within(count, out);
-    io::write_all(1, &out[..n]);
-}
-
-/// The report's lines, or `refused N at P`.
-pub fn print_report(sheet: &[u8]) {
-    let mut work = [0u32; 16384];
-    let mut tape = [0u8; 16000];
-    let mut out = [0u8; 16384];
-    let answer = report::write_report(sheet, &mut work, &mut tape, &mut out);
+    let answer = report::write_report(sheet, work, tape, out);
     match answer {
-        Report::Refused { number, place } => print_refused(number, place),
-        Report::Written { count } => print_lines(&out, count),
+        Report::Refused { number, place } => writing::refused_line(out, 0, number, place),
+        Report::Written { count } => count,
     }
 }

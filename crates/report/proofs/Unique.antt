@@ -24,7 +24,7 @@ answer-injective (Refused n p) (Written k) e = cc
 answer-injective (Written k) (Refused m o) e = cc
 answer-injective (Written k) (Written l) e = cc
 
-apart : {A C : Type 0} {v : A} {number place : ℕ} → given v ≡ refused number place → C
+pub apart : {A C : Type 0} {v : A} {number place : ℕ} → given v ≡ refused number place → C
 apart e = let z : _≡_ {A = ℕ} 0 1 = cc in absurd (omega arith)
 
 module _ {A : Type 0} (t : Terms) (R : Sheet → A → Type 0) (bytes : List ℕ) where
