@@ -59,12 +59,12 @@ module _ (part bits : List ℕ) (k lo l offset every : ℕ) (w : List ℕ) where
       no : (x : ℕ) → x < offset → x % every ≡ offset → ⊥
       no x j e = let less : x < every = omega arith in omega (arith, mod-eq-of-lt less)
 
-  pub times-more : (d : ℕ) (w′ w″ : List ℕ) → d < length part → d % every ≡ offset → 0 < every → Raised (Below Time d) w w′
-      → Raised (λ i v. (e : ℕ) × TickOffer bits k lo (d + l) (look part d) e i v) w′ w″ → Raised (Below Time (d + every)) w w″
-  times-more d w′ w″ h e pos done new = below-more Time w d every w′ w″ pos (λ x i v low high j p. skips every d x low high (p .released ∙ sym e)) done one
+  pub times-more : (d x : ℕ) (w′ w″ : List ℕ) → d < length part → d % every ≡ offset → x ≡ (d + l) % length part → 0 < every → Raised (Below Time d) w w′
+      → Raised (λ i v. (e : ℕ) × TickOffer bits k lo (d + l) (look part x) e i v) w′ w″ → Raised (Below Time (d + every)) w w″
+  times-more d x w′ w″ h e at pos done new = below-more Time w d every w′ w″ pos (λ y i v low high j p. skips every d y low high (p .released ∙ sym e)) done one
     where
       one : Raised (Time d) w′ w″
-      one = raised-as _ _ _ _ (λ i v j p. record { inside = h; released = e; tick = p .0; offer = p .1 }) (λ i v j p. (p .tick, p .offer)) new
+      one = raised-as _ _ _ _ (λ i v j p. record { inside = h; released = e; tick = p .0; offer = rw at at (p .1) }) (λ i v j p. (p .tick, rw at (p .offer))) new
 
   pub times-end : (d : ℕ) (w′ : List ℕ) → length part ≤ d → Raised (Below Time d) w w′ → Raised (λ i v. (x : ℕ) × Time x i v) w w′
   times-end d w′ h = below-all Time w d (λ i v. (x : ℕ) × Time x i v) w′ (λ x i v l p. (x, p)) (λ i v l p. (p .0, omega (arith, p .1 .inside), p .1))

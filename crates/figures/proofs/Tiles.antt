@@ -1,9 +1,9 @@
 -- The figures for no tick are 0; those for l - 1 ticks, with all offers of the layer for l ticks, are those for l; and none is above 32,000. Assumes nothing.
-use mathlib.Core.Path.{_≡_, refl, sym, _∙_}
+use mathlib.Core.Path.{_≡_, refl, sym, _∙_, ap}
 use mathlib.Core.Logic.{⊎-elim}
 use mathlib.Core.List.{List, _∷_, List·Memᴰ, List·Memᴰ·head, List·Memᴰ·tail}
-use Prim.Native.Nat.{ℕ, suc, _+_, _-_, _*_, _/_, _≤_, _<_}
-use native.Mathlib.Nat.{le-antisymm, sub-zero}
+use Prim.Native.Nat.{ℕ, suc, _+_, _-_, _*_, _/_, _%_, _≤_, _<_}
+use native.Mathlib.Nat.{le-antisymm, sub-zero, mod-lt}
 use native.Mathlib.Decide.{decLe}
 use native.Mathlib.Omega.{arith}
 use lib.ListN.{length, drop, length-take, length-drop}
@@ -47,15 +47,19 @@ module _ (m : Module) (ok : ModuleRule m) (s : Shape) (numbers : List ℕ) (told
   part-length : (k : ℕ) → k < s .modes → length (partOf s layer k) ≡ period s k
   part-length k h =
       simp (length-take, length-drop)
-      (omega (arith, told-room m ok s numbers told (value m 0 l) layer holds, sum-before (look (s .periods)) k (s .modes) h))
+      (omega (arith, told-room m ok s numbers told l (value m 0 l) layer holds, sum-before (look (s .periods)) k (s .modes) h))
 
-  part-value : (k d : ℕ) → k < s .modes → d < period s k → look (partOf s layer k) d ≡ value m 0 l (at k d)
-  part-value k d h i = getD-take (period s k) (drop (total (s .periods) k) layer) d 0 i ∙ getD-drop (total (s .periods) k) layer d 0 ∙ value-told m s numbers told l layer holds k d h i
+  part-value : (k d : ℕ) → k < s .modes → d < period s k → look (partOf s layer k) ((d + l) % length (partOf s layer k)) ≡ value m 0 l (at k d)
+  part-value k d h i =
+      let x : ℕ = (d + l) % period s k in
+      ap (λ (n : ℕ). look (partOf s layer k) ((d + l) % n)) (part-length k h)
+      ∙ getD-take (period s k) (drop (total (s .periods) k) layer) x 0 (mod-lt (d + l) (omega arith)) ∙ getD-drop (total (s .periods) k) layer x 0
+      ∙ value-told m s numbers told l layer holds k d h i
 
   task-told : (k : ℕ) → k < s .modes → (x : Task) → List·Memᴰ x (modeAt m k .tasks) → TaskAt (tasksOf s numbers k) x
   task-told k h x i = rw (told .each k h .tasks) (task-at x (modeAt m k .tasks) i)
 
-  offer-reached : (k i v : ℕ) → k < s .modes → lo + i ≤ horizon → ShapeOffer s numbers layer bits lo l k i v
+  pub offer-reached : (k i v : ℕ) → k < s .modes → lo + i ≤ horizon → ShapeOffer s numbers layer bits lo l k i v
       → (l ≤ lo + i) × (t : State) × Reach m (lo + i - l) t × (v ≡ value m 0 l t)
   offer-reached k i v h top p =
       let o = p .2 .offer in
@@ -67,7 +71,7 @@ module _ (m : Module) (ok : ModuleRule m) (s : Shape) (numbers : List ℕ) (told
       let entry = marks .sound k e (omega (arith, told .modes)) (omega arith) (o .offer .marked) in
       (omega arith, at k d, rw a at (entry-reach m ok k e d entry (omega (arith, told .each k h .period))), o .offer .value ∙ part-value k d h inside)
 
-  reached-offer : (i : ℕ) → l ≤ lo + i → lo + i ≤ horizon → (t : State) → Reach m (lo + i - l) t → Releasing m t l
+  pub reached-offer : (i : ℕ) → l ≤ lo + i → lo + i ≤ horizon → (t : State) → Reach m (lo + i - l) t → Releasing m t l
       → Below (ShapeOffer s numbers layer bits lo l) (s .modes) i (value m 0 l t)
   reached-offer i low top t reach rel =
       let k : ℕ = t .mode in

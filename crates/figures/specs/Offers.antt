@@ -26,13 +26,13 @@ pub record TickOffer (bits : List ℕ) (k lo far n e i v : ℕ) : Type 0 where
   pub ends : e + far ≡ lo + i
   pub value : v ≡ n
 
--- Where mode k is marked at tick e, its mode time d begins l ticks before the end e + d + l, to which it offers what its part of the layer
--- holds there; d is one at which a task of this offset and period is released.
+-- Where mode k is marked at tick e, its mode time d begins l ticks before the end e + d + l, to which it offers what its part of the layer for
+-- l ticks holds of it; d is one at which a task of this offset and period is released.
 pub record TimeOffer (part bits : List ℕ) (k lo l offset every d i v : ℕ) : Type 0 where
   pub inside : d < length part
   pub released : d % every ≡ offset
   pub tick : ℕ
-  pub offer : TickOffer bits k lo (d + l) (look part d) tick i v
+  pub offer : TickOffer bits k lo (d + l) (look part ((d + l) % length part)) tick i v
 
 -- task j, where its LET is at most l, offers at each of its releases
 pub record TaskOffer (part tasks bits : List ℕ) (k lo l j i v : ℕ) : Type 0 where

@@ -76,7 +76,8 @@ fn offer(fig: &mut [u32], bits: &[u32], k: usize, lo: usize, far: usize, v: u32)
     }
 }
 
-// At each mode time of mode k that leaves the offset, what its part of the layer holds there is offered to the end l ticks later.
+// At each mode time d of mode k that leaves the offset, what its part of the layer holds of it is offered to the end l ticks later; that number
+// stands l further on.
 fn offer_times(
     fig: &mut [u32],
     part: &[u32],
@@ -87,14 +88,16 @@ fn offer_times(
     offset: u16,
     every: u16,
 )
-    requires { ⌜ (offset < every) × (l ≤ 2000) × (Room k lo (now bits) (now fig)) ⌝ }
+    requires { ⌜ (offset < every) × (l ≤ 2000) × (0 < length (now part)) × (Room k lo (now bits) (now fig)) ⌝ }
     ensures { λ _. ⌜ Raised (λ i v. (d : ℕ) × TimeOffer (now (part .entry)) (now (bits .entry)) k lo l offset every d i v) (now (fig .entry)) (now (fig .exit)) ⌝ }
 {
     let step = every as usize;
     let mut d = offset as usize;
+    let mut x = layers::rest(d + l, part.len());
     while d < part.len() {
-        offer(fig, bits, k, lo, d + l, part[d]);
+        offer(fig, bits, k, lo, d + l, part[x]);
         d += step;
+        x = layers::rest(x + step, part.len());
     }
 }
 
@@ -109,7 +112,7 @@ fn offer_task(
     l: usize,
     j: usize,
 )
-    requires { ⌜ (j < length (now tasks) / 4) × (look (now tasks) (4 * j) < look (now tasks) (4 * j + 3)) × (l ≤ 2000) × (Room k lo (now bits) (now fig)) ⌝ }
+    requires { ⌜ (j < length (now tasks) / 4) × (look (now tasks) (4 * j) < look (now tasks) (4 * j + 3)) × (l ≤ 2000) × (0 < length (now part)) × (Room k lo (now bits) (now fig)) ⌝ }
     ensures { λ _. ⌜ Raised (TaskOffer (now (part .entry)) (now (tasks .entry)) (now (bits .entry)) k lo l j) (now (fig .entry)) (now (fig .exit)) ⌝ }
 {
     let window = tasks[4 * j + 2] as usize;
@@ -129,7 +132,7 @@ fn offer_tasks(
     lo: usize,
     l: usize,
 )
-    requires { ⌜ (TasksReady (now tasks)) × (l ≤ 2000) × (Room k lo (now bits) (now fig)) ⌝ }
+    requires { ⌜ (TasksReady (now tasks)) × (l ≤ 2000) × (0 < length (now part)) × (Room k lo (now bits) (now fig)) ⌝ }
     ensures { λ _. ⌜ Raised (ModeOffer (now (part .entry)) (now (tasks .entry)) (now (bits .entry)) k lo l) (now (fig .entry)) (now (fig .exit)) ⌝ }
 {
     let n = tasks.len() / 4;

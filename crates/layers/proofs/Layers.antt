@@ -1,33 +1,31 @@
 -- From one layer of a module to the next, by the numbers that tell the module; the first layer; and the largest number of a layer, which is the
 -- module demand. Assumes nothing.
 use mathlib.Core.Path.{_≡_, refl, sym, ap, _∙_, subst}
+use mathlib.Core.Bool.{true}
 use mathlib.Core.List.{List, List·Memᴰ}
-use Prim.Native.Nat.{ℕ, zero, suc, _+_, _^_, _≤_, _<_, max}
-use native.Mathlib.Nat.{add-zero, add-suc}
+use Prim.Native.Nat.{ℕ, zero, suc, _+_, _%_, _^_, _≤_, _<_, max}
+use native.Mathlib.Nat.{zero-add, add-zero, add-suc, mod-lt}
 use native.Mathlib.Numerals.{add-one}
 use native.Mathlib.Omega.{arith}
+use lib.Dec.{eqb}
 use lib.ListN.{length}
-use Rattle.model.specs.Lists.{maxBelow}
+use Rattle.model.specs.Lists.{maxBelow, All}
 use Rattle.model.specs.Sheet.{Switch, Module}
-use Rattle.model.specs.WellFormed.{SwitchRule, ModeRule, ModuleRule}
+use Rattle.model.specs.WellFormed.{TaskRule, SwitchRule, ModeRule, ModuleRule}
 use Rattle.model.specs.Run.{State, at, modeAt, Listed}
 use Rattle.model.specs.Demand.{value, moduleDemand}
 use Rattle.model.proofs.Lists.{all-mem}
 use Rattle.model.proofs.Runs.{mode-rule, best-next, next-listed}
 use Rattle.layers.specs.declared.Shape.{Shape}
 use Rattle.model.proofs.Bounds.{value-bound}
-use Rattle.layers.specs.Step.{sumBelow, look, total, period, tasksOf, next, offered, stepAt, Stepped, Cleared, ModeReady, Ready}
-use Rattle.layers.specs.Layer.{place, statesOf, Holds, Layer, earlier, ModeTold, Told, Steppable, SteppedBy}
-use Rattle.layers.proofs.Sums.{sum-before}
-use Rattle.layers.proofs.Parts.{next-inside}
+use Rattle.layers.specs.Step.{sumBelow, look, total, period, lists, every, tasksOf, offered, stepAt, Stepped, Cleared, ModeReady, Ready}
+use Rattle.layers.specs.Layer.{place, statesOf, Holds, Layer, next, earlier, ModeTold, Told, Steppable, SteppedBy}
+use Rattle.layers.proofs.Sums.{sum-same, sum-before}
+use Rattle.layers.proofs.Turns.{next-inside, turn-next, turn-back, turn-open, turn-largest}
 use Rattle.layers.proofs.Bounds.{gain-le}
 use Rattle.layers.proofs.Nexts.{nexts-split, offered-is, gained-is, tasks-ready}
 
 -- Places.
-
-sum-same : (f g : ℕ → ℕ) (n : ℕ) → ((k : ℕ) → k < n → f k ≡ g k) → sumBelow f n ≡ sumBelow g n
-sum-same f g zero h = refl
-sum-same f g (suc n) h = omega (arith, h n (omega arith), sum-same f g n (λ k l. h k (omega arith)))
 
 -- the place is behind the periods that are told
 pub place-told : (m : Module) (s : Shape) (numbers : List ℕ) → Told m s numbers → (k : ℕ) → k ≤ s .modes → (d : ℕ) → place m k d ≡ total (s .periods) k + d
@@ -43,14 +41,15 @@ unfolding place
 place-inside m k d h i = omega (arith, sum-before (λ j. modeAt m j .period) k (length (m .modes)) h)
 
 -- what a layer holds, at the place that the numbers give
-pub held-told : (m : Module) (s : Shape) (numbers : List ℕ) → Told m s numbers → (f : State → ℕ) (w : List ℕ) → Holds m f w
-    → (k d : ℕ) → k < s .modes → d < period s k → look w (total (s .periods) k + d) ≡ f (at k d)
-held-told m s numbers told f w layer k d h i =
-    ap (look w) (sym (place-told m s numbers told k (omega arith) d)) ∙ layer .holds k d (omega (arith, told .modes)) (omega (arith, told .each k h .period))
+pub held-told : (m : Module) (s : Shape) (numbers : List ℕ) → Told m s numbers → (n : ℕ) (f : State → ℕ) (w : List ℕ) → Holds m n f w
+    → (k d : ℕ) → k < s .modes → d < period s k → look w (total (s .periods) k + (d + n) % period s k) ≡ f (at k d)
+held-told m s numbers told n f w layer k d h i =
+    let p : period s k ≡ modeAt m k .period = told .each k h .period in
+    ap (look w) (sym (place-told m s numbers told k (omega arith) ((d + n) % period s k)) ∙ ap (λ (x : ℕ). place m k ((d + n) % x)) p) ∙ layer .holds k d (omega (arith, told .modes)) (omega arith)
 
 pub value-told : (m : Module) (s : Shape) (numbers : List ℕ) → Told m s numbers → (L : ℕ) (w : List ℕ) → Layer m L w
-    → (k d : ℕ) → k < s .modes → d < period s k → look w (total (s .periods) k + d) ≡ value m 0 L (at k d)
-value-told m s numbers told L w = held-told m s numbers told (value m 0 L) w
+    → (k d : ℕ) → k < s .modes → d < period s k → look w (total (s .periods) k + (d + L) % period s k) ≡ value m 0 L (at k d)
+value-told m s numbers told L w = held-told m s numbers told L (value m 0 L) w
 
 -- One step.
 
@@ -74,79 +73,98 @@ module _ (m : Module) (ok : ModuleRule m) (s : Shape) (numbers : List ℕ) (told
         tasks = rw (t .tasks) (tasks-ready (modeAt m k .period) (modeAt m k .tasks) (told-rule k h .tasks));
       }
 
-  module _ (f : State → ℕ) (w : List ℕ) (layer : Holds m f w) where
+  module _ (n : ℕ) (f : State → ℕ) (w : List ℕ) (layer : Holds m n f w) where
     pub told-room : total (s .periods) (s .modes) ≤ length w
     told-room = omega (arith, states-told m s numbers told, layer .room)
 
-    module _ (heads : List ℕ) (are : (k : ℕ) → k < s .modes → look heads k ≡ look w (total (s .periods) k)) where
+    module _ (heads : List ℕ) (are : (k : ℕ) → k < s .modes → look heads k ≡ look w (total (s .periods) k + n % period s k)) where
       heads-are : (k : ℕ) → k < s .modes → look heads k ≡ f (at k 0)
-      heads-are k h =
-          let zero′ : total (s .periods) k ≡ total (s .periods) k + 0 = omega arith in
-          are k h ∙ ap (look w) zero′ ∙ held-told m s numbers told f w layer k 0 h (told-ready .each k h .positive)
+      heads-are k h = are k h ∙ rw (zero-add n) at (held-told m s numbers told n f w layer k 0 h (told-ready .each k h .positive))
 
       -- the step gives the numbers of one tick earlier
-      step-earlier : (l k d : ℕ) → k < s .modes → d < period s k → stepAt s numbers heads l w k d ≡ earlier m l f (at k d)
+      step-earlier : (l k d : ℕ) → k < s .modes → d < period s k → stepAt s numbers heads l n w k ((d + (n + 1)) % period s k) ≡ earlier m l f (at k d)
       step-earlier l k d h i =
           let p : period s k ≡ modeAt m k .period = told .each k h .period in
-          let v : ℕ = look w (total (s .periods) k + next (period s k) d) in
-          let stays : v ≡ f (at k (next (modeAt m k .period) d)) = held-told m s numbers told f w layer k (next (period s k) d) h (next-inside (period s k) d i) ∙ ap (λ (x : ℕ). f (at k (next x d))) p in
-          let offers = offered-is m s numbers heads f k (told .each k h) (λ x j. subst (λ (n : ℕ). x .target < n) (sym (told .modes)) (switch-rule k h x j .there)) heads-are d v in
-          let gains = gained-is m (tasksOf s numbers k) k (told .each k h .tasks) l d (offered s k heads (s .modes) d v) in
+          let x : ℕ = (d + (n + 1)) % period s k in
+          let v : ℕ = look w (total (s .periods) k + x) in
+          let stays : v ≡ f (at k (next (modeAt m k .period) d)) =
+          ap (λ (y : ℕ). look w (total (s .periods) k + y)) (sym (turn-next (period s k) d i n))
+          ∙ held-told m s numbers told n f w layer k (next (period s k) d) h (next-inside (period s k) d i)
+          ∙ ap (λ (y : ℕ). f (at k (next y d))) p in
+          let offers = offered-is m s numbers heads f k (told .each k h) (λ y j. subst (λ (c : ℕ). y .target < c) (sym (told .modes)) (switch-rule k h y j .there)) heads-are n d x (opens k d h) v in
+          let rules : All (TaskRule (period s k)) (modeAt m k .tasks) = rw p (told-rule k h .tasks) in
+          let gains = gained-is m (tasksOf s numbers k) k (period s k) (told .each k h .tasks) rules l n d (offered s k heads n (s .modes) x v) in
           let split = nexts-split m f k d (omega arith) in
           omega (arith, gains, offers, stays, split)
+        where
+          opens : (k d : ℕ) → k < s .modes → (t : ℕ) → t < s .modes → lists s k t ≡ true
+              → eqb ((d + (n + 1)) % period s k % every s k t) (n % every s k t) ≡ eqb ((d + 1) % every s k t) 0
+          opens k d h t j e =
+              let r = told .each k h .only t j e in
+              let rule = switch-rule k h (r .0) (r .1) in
+              let divides : period s k % every s k t ≡ 0 = rw (told .each k h .period, ← (r .3)) (rule .divides) in
+              turn-open (period s k) (every s k t) (omega (arith, r .3, rule .positive)) divides d n
 
-      pub holds-step : (l : ℕ) (w′ : List ℕ) → Stepped s numbers heads l (s .modes) w w′ → Holds m (earlier m l f) w′
+      pub holds-step : (l : ℕ) (w′ : List ℕ) → Stepped s numbers heads l n (s .modes) w w′ → Holds m (n + 1) (earlier m l f) w′
       holds-step l w′ new = record {
         room = omega (arith, new .len, layer .room);
         holds = λ k d h i. held k d (omega (arith, told .modes)) i;
       }
         where
-          held : (k d : ℕ) → k < s .modes → d < modeAt m k .period → look w′ (place m k d) ≡ earlier m l f (at k d)
+          held : (k d : ℕ) → k < s .modes → d < modeAt m k .period → look w′ (place m k ((d + (n + 1)) % modeAt m k .period)) ≡ earlier m l f (at k d)
           held k d h i =
-              let j : d < period s k = omega (arith, told .each k h .period) in
-              ap (look w′) (place-told m s numbers told k (omega arith) d) ∙ new .each k d h j ∙ step-earlier l k d h j
+              let p : modeAt m k .period ≡ period s k = sym (told .each k h .period) in
+              let j : d < period s k = omega arith in
+              ap (λ (y : ℕ). look w′ (place m k ((d + (n + 1)) % y))) p ∙ ap (look w′) (place-told m s numbers told k (omega arith) ((d + (n + 1)) % period s k))
+              ∙ new .each k ((d + (n + 1)) % period s k) h (mod-lt (d + (n + 1)) (omega arith)) ∙ step-earlier l k d h j
 
   -- No number is too large.
 
-  -- what w holds of a state
-  found : List ℕ → State → ℕ
-  found w x = look w (place m (x .mode) (x .time))
+  -- what w holds of a state after n steps
+  found : ℕ → List ℕ → State → ℕ
+  found n w x = look w (place m (x .mode) ((x .time + n) % modeAt m (x .mode) .period))
 
-  found-holds : (w : List ℕ) → total (s .periods) (s .modes) ≤ length w → Holds m (found w) w
+  found-holds : (n : ℕ) (w : List ℕ) → total (s .periods) (s .modes) ≤ length w → Holds m n (found n w) w
   unfolding found
-  found-holds w room = record { room = omega (arith, states-told m s numbers told); holds = λ k d h i. refl }
+  found-holds n w room = record { room = omega (arith, states-told m s numbers told); holds = λ k d h i. refl }
 
-  module _ (w : List ℕ) (room : total (s .periods) (s .modes) ≤ length w)
-      (low : (k d : ℕ) → k < s .modes → d < period s k → look w (total (s .periods) k + d) + 16384 < 2 ^ 32) where
-    found-low : (x : State) → Listed m x → found w x + 16384 < 2 ^ 32
-    unfolding found
+  module _ (n : ℕ) (w : List ℕ) (room : total (s .periods) (s .modes) ≤ length w)
+      (low : (k x : ℕ) → k < s .modes → x < period s k → look w (total (s .periods) k + x) + 16384 < 2 ^ 32) where
+    found-low : (x : State) → Listed m x → found n w x + 16384 < 2 ^ 32
     found-low x h =
         let l : x .mode < s .modes = omega (arith, told .modes, h .mode) in
-        rw (place-told m s numbers told (x .mode) (omega arith) (x .time)) (low (x .mode) (x .time) l (omega (arith, told .each (x .mode) l .period, h .time)))
+        let inside : x .time < period s (x .mode) = omega (arith, told .each (x .mode) l .period, h .time) in
+        rw (sym (held-told m s numbers told n (found n w) w (found-holds n w room) (x .mode) (x .time) l inside))
+        (low (x .mode) ((x .time + n) % period s (x .mode)) l (mod-lt (x .time + n) (omega arith)))
 
-    found-fits : (heads : List ℕ) → ((k : ℕ) → k < s .modes → look heads k ≡ look w (total (s .periods) k))
-        → (l k d : ℕ) → k < s .modes → d < period s k → stepAt s numbers heads l w k d < 2 ^ 32
-    found-fits heads are l k d h i =
-        let inside : d < modeAt m k .period = omega (arith, told .each k h .period) in
-        let best = best-next m (found w) (at k d) inside in
+    found-fits : (heads : List ℕ) → ((k : ℕ) → k < s .modes → look heads k ≡ look w (total (s .periods) k + n % period s k))
+        → (l k x : ℕ) → k < s .modes → x < period s k → stepAt s numbers heads l n w k x < 2 ^ 32
+    found-fits heads are l k x h i =
+        let t = turn-back (period s k) (n + 1) x i in
+        let d : ℕ = t .0 in
+        let inside : d < modeAt m k .period = omega (arith, told .each k h .period, t .1) in
+        let best = best-next m (found n w) (at k d) inside in
         let listed : Listed m (best .0) = next-listed m ok (at k d) (best .0) (record { mode = omega (arith, told .modes); time = inside }) (best .1) in
-        omega (arith, step-earlier (found w) w (found-holds w room) heads are l k d h i, gain-le m ok (at k d) 0 l, best .2, found-low (best .0) listed)
+        rw (sym (t .2))
+        (omega (arith, step-earlier n (found n w) w (found-holds n w room) heads are l k d h (t .1), gain-le m ok (at k d) 0 l, best .2, found-low (best .0) listed))
 
   -- The largest demand in L ticks.
 
   module _ (L : ℕ) (w : List ℕ) (layer : Layer m L w) where
-    pub layer-low : L < 2000 → (k d : ℕ) → k < s .modes → d < period s k → look w (total (s .periods) k + d) + 16384 < 2 ^ 32
-    layer-low l k d h i =
-        let inside : d < modeAt m k .period = omega (arith, told .each k h .period) in
-        omega (arith, value-told m s numbers told L w layer k d h i, value-bound m ok 0 L (at k d) inside)
+    pub layer-low : L < 2000 → (k x : ℕ) → k < s .modes → x < period s k → look w (total (s .periods) k + x) + 16384 < 2 ^ 32
+    layer-low l k x h i =
+        let t = turn-back (period s k) L x i in
+        let inside : t .0 < modeAt m k .period = omega (arith, told .each k h .period, t .1) in
+        rw (sym (t .2)) (omega (arith, value-told m s numbers told L w layer k (t .0) h (t .1), value-bound m ok 0 L (at k (t .0)) inside))
 
-    pub layer-step : (w′ : List ℕ) → SteppedBy s numbers (L + 1) w w′ → Layer m (L + 1) w′
+    pub layer-step : (w′ : List ℕ) → SteppedBy s numbers (L + 1) L w w′ → Layer m (L + 1) w′
     unfolding value
     layer-step w′ new = rw (add-one L) (rw (add-one L) at (new .holds m ok told (value m 0 L) layer))
 
-pub step-fits : (s : Shape) (numbers w : List ℕ) → Steppable s numbers w → (heads : List ℕ) → ((k : ℕ) → k < s .modes → look heads k ≡ look w (total (s .periods) k))
-    → (l k d : ℕ) → k < s .modes → d < period s k → stepAt s numbers heads l w k d < 2 ^ 32
-step-fits s numbers w can = found-fits (can .owner) (can .rule) s numbers (can .told) w (can .room) (can .low)
+pub step-fits : (s : Shape) (numbers w : List ℕ) → Steppable s numbers w → (n : ℕ) (heads : List ℕ)
+    → ((k : ℕ) → k < s .modes → look heads k ≡ look w (total (s .periods) k + n % period s k))
+    → (l k x : ℕ) → k < s .modes → x < period s k → stepAt s numbers heads l n w k x < 2 ^ 32
+step-fits s numbers w can n = found-fits (can .owner) (can .rule) s numbers (can .told) n w (can .room) (can .low)
 
 -- The first layer.
 
@@ -155,7 +173,9 @@ pub layer-start : (m : Module) (s : Shape) (numbers : List ℕ) → Told m s num
 unfolding value
 layer-start m s numbers told w w′ h c = record {
   room = omega (arith, c .len, states-told m s numbers told);
-  holds = λ k d i j. c .zeros (place m k d) (omega (arith, place-inside m k d i j, states-told m s numbers told));
+  holds = λ k d i j.
+      let inside : (d + 0) % modeAt m k .period < modeAt m k .period = mod-lt (d + 0) (omega arith) in
+      c .zeros (place m k ((d + 0) % modeAt m k .period)) (omega (arith, place-inside m k ((d + 0) % modeAt m k .period) i inside, states-told m s numbers told));
 }
 
 -- The largest number.
@@ -179,4 +199,4 @@ unfolding moduleDemand place
 layer-largest m s numbers told L w layer =
     ap (maxBelow (look w)) (sym (states-told m s numbers told) ∙ add-zero (sumBelow (λ j. modeAt m j .period) (length (m .modes))))
     ∙ maxBelow-parts (look w) (λ j. modeAt m j .period) (length (m .modes))
-    ∙ maxBelow-same _ _ (length (m .modes)) (λ k h. maxBelow-same _ _ (modeAt m k .period) (λ d i. layer .holds k d h i))
+    ∙ maxBelow-same _ _ (length (m .modes)) (λ k h. turn-largest _ _ (modeAt m k .period) L (λ d i. layer .holds k d h i))

@@ -1,6 +1,7 @@
 pub mod Sums
 pub mod Walks
 pub mod Parts
+pub mod Turns
 pub mod Bounds
 pub mod Nexts
 pub mod Layers

@@ -1,6 +1,6 @@
 -- The largest value over the next states is that of the next state in the mode or of the targets whose switches are open; and the numbers that
 -- tell a mode give these targets' heads, and its gains. Assumes nothing.
-use mathlib.Core.Path.{_≡_, refl, ap, _∙_, fun-ext}
+use mathlib.Core.Path.{_≡_, refl, sym, ap, _∙_, fun-ext}
 use mathlib.Core.Bool.{Bool, true, false, _&&_}
 use mathlib.Core.List.{List, [], _∷_, List·Memᴰ, List·Memᴰ·head, List·Memᴰ·tail}
 use Prim.Native.Nat.{ℕ, zero, suc, _+_, _*_, _/_, _%_, _≤_, _<_, max}
@@ -18,8 +18,10 @@ use Rattle.model.specs.Run.{State, at, modeAt, gainOf, gain}
 use Rattle.model.specs.Demand.{consIf, targets, nexts}
 use Rattle.model.proofs.Lists.{le-maxBelow}
 use Rattle.layers.specs.declared.Shape.{Shape}
-use Rattle.layers.specs.Step.{sumBelow, look, lists, every, next, offerOf, offer, due, offered, gained}
-use Rattle.layers.specs.Layer.{ModeTold}
+use Rattle.layers.specs.Step.{sumBelow, look, lists, every, offerOf, offer, due, dueAt, offered, gained}
+use Rattle.layers.specs.Layer.{next, ModeTold}
+use Rattle.layers.proofs.Sums.{sum-same}
+use Rattle.layers.proofs.Turns.{maxBelow-le, turn-release}
 
 -- The next states.
 
@@ -53,40 +55,39 @@ module _ (f : State → ℕ) (d : ℕ) where
       pick true e i = omega (arith, h w (List·Memᴰ·head refl) (eqb-true _ _ e))
       pick false e i = i
 
-maxBelow-le : (f : ℕ → ℕ) (c n : ℕ) → ((k : ℕ) → k < n → f k ≤ c) → maxBelow f n ≤ c
-maxBelow-le f c zero h = omega arith
-maxBelow-le f c (suc n) h = omega (arith, h n (omega arith), maxBelow-le f c n (λ k l. h k (omega arith)))
-
--- The numbers tell the mode k, each switch leads to a mode of the module, and the heads are the values of f.
+-- The numbers tell the mode k, each switch leads to a mode of the module, the heads are the values of f, and the switches are open at the
+-- position x where they are one tick after mode time d.
 module _ (m : Module) (s : Shape) (numbers heads : List ℕ) (f : State → ℕ) (k : ℕ) (told : ModeTold m s numbers k)
-    (there : (w : Switch) → List·Memᴰ w (modeAt m k .switches) → w .target < s .modes) (are : (t : ℕ) → t < s .modes → look heads t ≡ f (at t 0)) where
-  offer-le : (d t : ℕ) → t < s .modes → offer s k heads d t ≤ maxOf f (targets d (modeAt m k .switches))
+    (there : (w : Switch) → List·Memᴰ w (modeAt m k .switches) → w .target < s .modes) (are : (t : ℕ) → t < s .modes → look heads t ≡ f (at t 0))
+    (n d x : ℕ) (opens : (t : ℕ) → t < s .modes → lists s k t ≡ true → eqb (x % every s k t) (n % every s k t) ≡ eqb ((d + 1) % every s k t) 0) where
+  offer-le : (t : ℕ) → t < s .modes → offer s k heads n x t ≤ maxOf f (targets d (modeAt m k .switches))
   unfolding offerOf
-  offer-le d t h = pick (lists s k t) refl (eqb ((d + 1) % every s k t) 0) refl
+  offer-le t h = pick (lists s k t) refl (eqb (x % every s k t) (n % every s k t)) refl
     where
-      pick : (a : Bool) → lists s k t ≡ a → (b : Bool) → eqb ((d + 1) % every s k t) 0 ≡ b → when (a && b) (look heads t) ≤ maxOf f (targets d (modeAt m k .switches))
+      pick : (a : Bool) → lists s k t ≡ a → (b : Bool) → eqb (x % every s k t) (n % every s k t) ≡ b → when (a && b) (look heads t) ≤ maxOf f (targets d (modeAt m k .switches))
       pick true p true q =
           let r = told .only t h p in
           let w : Switch = r .0 in
           let e : w .target ≡ t = r .2 in
-          let i : f (at (w .target) 0) ≤ maxOf f (targets d (modeAt m k .switches)) = open-le f d w (modeAt m k .switches) (r .1) (rw (r .3) (eqb-true _ _ q)) in
+          let i : f (at (w .target) 0) ≤ maxOf f (targets d (modeAt m k .switches)) = open-le f d w (modeAt m k .switches) (r .1) (rw (r .3) (eqb-true _ _ (sym (opens t h p) ∙ q))) in
           omega (arith, are t h, rw e at i)
       pick true p false q = omega arith
       pick false p b q = omega arith
 
-  le-offer : (d : ℕ) (w : Switch) → List·Memᴰ w (modeAt m k .switches) → (d + 1) % w .period ≡ 0 → f (at (w .target) 0) ≤ maxBelow (offer s k heads d) (s .modes)
+  le-offer : (w : Switch) → List·Memᴰ w (modeAt m k .switches) → (d + 1) % w .period ≡ 0 → f (at (w .target) 0) ≤ maxBelow (offer s k heads n x) (s .modes)
   unfolding offerOf
-  le-offer d w i h =
+  le-offer w i h =
       let p = told .listed w i in
-      let e : offer s k heads d (w .target) ≡ look heads (w .target) = rw (p .0, p .1, eq-eqb ((d + 1) % w .period) 0 h) in
-      omega (arith, e, are (w .target) (there w i), le-maxBelow (offer s k heads d) (s .modes) (w .target) (there w i))
+      let test : eqb (x % every s k (w .target)) (n % every s k (w .target)) ≡ true = opens (w .target) (there w i) (p .0) ∙ eq-eqb ((d + 1) % every s k (w .target)) 0 (rw (p .1) h) in
+      let e : offer s k heads n x (w .target) ≡ look heads (w .target) = rw (p .0, test) in
+      omega (arith, e, are (w .target) (there w i), le-maxBelow (offer s k heads n x) (s .modes) (w .target) (there w i))
 
-  pub offered-is : (d v : ℕ) → offered s k heads (s .modes) d v ≡ max v (maxOf f (targets d (modeAt m k .switches)))
+  pub offered-is : (v : ℕ) → offered s k heads n (s .modes) x v ≡ max v (maxOf f (targets d (modeAt m k .switches)))
   unfolding offered
-  offered-is d v =
+  offered-is v =
       ap (max v) (le-antisymm
-      (maxBelow-le (offer s k heads d) (maxOf f (targets d (modeAt m k .switches))) (s .modes) (offer-le d))
-      (targets-le f d (maxBelow (offer s k heads d) (s .modes)) (modeAt m k .switches) (le-offer d)))
+      (maxBelow-le (offer s k heads n x) (maxOf f (targets d (modeAt m k .switches))) (s .modes) offer-le)
+      (targets-le f d (maxBelow (offer s k heads n x) (s .modes)) (modeAt m k .switches) le-offer))
 
 -- The tasks.
 
@@ -126,14 +127,32 @@ dues [] q l d = refl
 dues (k ∷ ks) q l d =
     omega (arith, sum-first (due (taskNumbers (k ∷ ks)) l d) (length ks), due-first k ks q l d, ap (λ (g : ℕ → ℕ). sumBelow g (length ks)) (fun-ext (λ i. due-behind k ks i l d)), dues ks q l d)
 
-pub gained-is : (m : Module) (tasks : List ℕ) (k : ℕ) → tasks ≡ taskNumbers (modeAt m k .tasks) → (l d v : ℕ) → gained tasks l (length tasks / 4) d v ≡ v + gain m (at k d) 0 l
-unfolding gained gain
-gained-is m tasks k e l d v =
+pub gains-are : (m : Module) (tasks : List ℕ) (k : ℕ) → tasks ≡ taskNumbers (modeAt m k .tasks) → (l d : ℕ) → sumBelow (due tasks l d) (length tasks / 4) ≡ gain m (at k d) 0 l
+unfolding gain
+gains-are m tasks k e l d =
     let ks : List Task = modeAt m k .tasks in
     let n : length (taskNumbers ks) / 4 ≡ length ks = omega (arith, numbers-length ks) in
-    rw (e, n) (ap (λ (x : ℕ). v + x) (dues ks k l d))
+    rw (e, n) (dues ks k l d)
 
 pub tasks-ready : (p : ℕ) (ks : List Task) → All (TaskRule p) ks → (i : ℕ) → i < length (taskNumbers ks) / 4 → look (taskNumbers ks) (4 * i) < look (taskNumbers ks) (4 * i + 3)
 tasks-ready p [] h i l = absurd (omega arith)
 tasks-ready p (k ∷ ks) h zero l = let r : TaskRule p k = h .0 in omega arith
 tasks-ready p (k ∷ ks) h (suc i) l = rw (behind k ks i 3 (4 * suc i + 3) refl, behind-first k ks i) (tasks-ready p ks (h .1) i (omega arith))
+
+tasks-divide : (p : ℕ) (ks : List Task) → All (TaskRule p) ks → (i : ℕ) → i < length (taskNumbers ks) / 4 → p % look (taskNumbers ks) (4 * i + 3) ≡ 0
+tasks-divide p [] h i l = absurd (omega arith)
+tasks-divide p (k ∷ ks) h zero l = let r : TaskRule p k = h .0 in r .divides
+tasks-divide p (k ∷ ks) h (suc i) l = rw (behind k ks i 3 (4 * suc i + 3) refl) (tasks-divide p ks (h .1) i (omega arith))
+
+-- at the position of mode time d a task gains what it gains there
+due-turned : (tasks : List ℕ) (p l n d i : ℕ) → p % look tasks (4 * i + 3) ≡ 0 → look tasks (4 * i) < look tasks (4 * i + 3) → dueAt tasks l n ((d + (n + 1)) % p) i ≡ due tasks l d i
+unfolding due dueAt
+due-turned tasks p l n d i divides ready = rw (turn-release p (look tasks (4 * i + 3)) (omega arith) divides d (look tasks (4 * i)) n ready)
+
+pub gained-is : (m : Module) (tasks : List ℕ) (k p : ℕ) → tasks ≡ taskNumbers (modeAt m k .tasks) → All (TaskRule p) (modeAt m k .tasks)
+    → (l n d v : ℕ) → gained tasks l n (length tasks / 4) ((d + (n + 1)) % p) v ≡ v + gain m (at k d) 0 l
+unfolding gained
+gained-is m tasks k p e rules l n d v =
+    let ready : (i : ℕ) → i < length tasks / 4 → look tasks (4 * i) < look tasks (4 * i + 3) = rw e (tasks-ready p (modeAt m k .tasks) rules) in
+    let divides : (i : ℕ) → i < length tasks / 4 → p % look tasks (4 * i + 3) ≡ 0 = rw e (tasks-divide p (modeAt m k .tasks) rules) in
+    ap (λ (y : ℕ). v + y) (sum-same (dueAt tasks l n ((d + (n + 1)) % p)) (due tasks l d) (length tasks / 4) (λ i h. due-turned tasks p l n d i (divides i h) (ready i h)) ∙ gains-are m tasks k e l d)

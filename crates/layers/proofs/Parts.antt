@@ -6,30 +6,18 @@ use native.Mathlib.Decide.{decLt}
 use native.Mathlib.Omega.{arith}
 use lib.ListN.{length, take, drop, set, length-set, List·getD-append}
 use lib.Seq.{getD-take, getD-drop, getD-append-add, length-take-le, getD-set-same, getD-set-other}
-use borrow.Author.Tests.{lt-ltb, le-ltb}
 use borrow.Rule.Slice.PartMut.{putMid, midOf, postOf, mid-len, same-len-mid, drop-put}
 use Rattle.layers.specs.declared.Shape.{Shape}
-use Rattle.layers.specs.Step.{look, total, period, tasksOf, next, stepped, Renewed, stepAt, Replaced, Stepped, Cleared}
+use Rattle.layers.specs.Step.{look, total, period, tasksOf, Moved, stepped, stepAt, Replaced, Stepped, Cleared}
 use Rattle.layers.proofs.Sums.{sum-more, sum-before}
-
-pub next-inside : (p d : ℕ) → d < p → next p d < p
-unfolding next
-next-inside p d h = pick (decLt (d + 1) p)
-  where
-    pick : Dec (d + 1 < p) → next p d < p
-    pick (yes a) = rw (lt-ltb _ _ a) a
-    pick (no a) = let last : p ≤ d + 1 = omega arith in rw (le-ltb _ _ last) (omega arith)
 
 -- the part from a on, of p numbers
 module _ (w : List ℕ) (a p : ℕ) (fits : a + p ≤ length w) where
   pub part-length : length (midOf a (a + p - a) w) ≡ p
   part-length = mid-len a (a + p) w fits ∙ omega arith
 
-  part-look : (d : ℕ) → d < p → look (midOf a (a + p - a) w) d ≡ look w (a + d)
+  pub part-look : (d : ℕ) → d < p → look (midOf a (a + p - a) w) d ≡ look w (a + d)
   part-look d h = getD-take (a + p - a) (drop a w) d 0 (omega arith) ∙ getD-drop a w d 0
-
-  pub part-next : (d : ℕ) → d < p → look (midOf a (a + p - a) w) (next (length (midOf a (a + p - a) w)) d) ≡ look w (a + next p d)
-  part-next d h = ap (λ (n : ℕ). look (midOf a (a + p - a) w) (next n d)) part-length ∙ part-look (next p d) (next-inside p d h)
 
   pub back-below : (ys : List ℕ) (x : ℕ) → x < a → look (putMid a (a + p - a) w ys) x ≡ look w x
   back-below ys x h =
@@ -49,13 +37,13 @@ module _ (w : List ℕ) (a p : ℕ) (fits : a + p ≤ length w) where
       ap (look (putMid a (a + p - a) w ys)) (sym q) ∙ sym (getD-drop (a + p) (putMid a (a + p - a) w ys) y 0)
       ∙ ap (λ (l : List ℕ). look l y) (drop-put a (a + p) w ys (omega arith) fits (omega arith)) ∙ getD-drop (a + p) w y 0 ∙ ap (look w) q
 
-module _ (s : Shape) (numbers heads : List ℕ) (l : ℕ) where
+module _ (s : Shape) (numbers heads : List ℕ) (l n : ℕ) where
   -- a part that is renewed, and is back, has taken the place of the part before
   pub replaced : (k : ℕ) (w ys : List ℕ) (a : ℕ) → a ≡ total (s .periods) k → a + period s k ≤ length w
-      → Renewed s k (tasksOf s numbers k) heads l (midOf a (a + period s k - a) w) ys → Replaced s numbers heads l k w (putMid a (a + period s k - a) w ys)
+      → Moved (stepped s k (tasksOf s numbers k) heads l n) (midOf a (a + period s k - a) w) ys → Replaced s numbers heads l n k w (putMid a (a + period s k - a) w ys)
   replaced k w ys a e fits r = record {
     len = same-len-mid a (a + p - a) w ys (r .len);
-    here = λ d h. rw (sym e) (back-here w a p fits ys (r .len ∙ size) d h ∙ r .each d (omega (arith, size)) ∙ ap (stepped s k (tasksOf s numbers k) heads l d) (part-next w a p fits d h));
+    here = λ x h. rw (sym e) (back-here w a p fits ys (r .len ∙ size) x h ∙ r .each x (omega (arith, size)) ∙ ap (stepped s k (tasksOf s numbers k) heads l n x) (part-look w a p fits x h));
     below = λ x h. back-below w a p fits ys x (omega arith);
     above = λ x h. back-above w a p fits ys (r .len ∙ size) x (omega arith);
   }
@@ -68,29 +56,29 @@ module _ (s : Shape) (numbers heads : List ℕ) (l : ℕ) where
 
   -- The parts one after another.
 
-  pub stepped-start : (w : List ℕ) → Stepped s numbers heads l 0 w w
-  stepped-start w = record { len = refl; each = λ k d h. absurd (omega arith); above = λ x h. refl }
+  pub stepped-start : (w : List ℕ) → Stepped s numbers heads l n 0 w w
+  stepped-start w = record { len = refl; each = λ k x h. absurd (omega arith); above = λ x h. refl }
 
   -- the step of the next part sees it as it was
-  pub step-same : (k : ℕ) (w w′ : List ℕ) → Stepped s numbers heads l k w w′ → (d : ℕ) → stepAt s numbers heads l w′ k d ≡ stepAt s numbers heads l w k d
-  step-same k w w′ done d = ap (stepped s k (tasksOf s numbers k) heads l d) (done .above (total (s .periods) k + next (period s k) d) (omega arith))
+  pub step-same : (k : ℕ) (w w′ : List ℕ) → Stepped s numbers heads l n k w w′ → (x : ℕ) → stepAt s numbers heads l n w′ k x ≡ stepAt s numbers heads l n w k x
+  step-same k w w′ done x = ap (stepped s k (tasksOf s numbers k) heads l n x) (done .above (total (s .periods) k + x) (omega arith))
 
-  pub stepped-more : (k : ℕ) (w w′ w″ : List ℕ) → Stepped s numbers heads l k w w′ → Replaced s numbers heads l k w′ w″ → Stepped s numbers heads l (k + 1) w w″
+  pub stepped-more : (k : ℕ) (w w′ w″ : List ℕ) → Stepped s numbers heads l n k w w′ → Replaced s numbers heads l n k w′ w″ → Stepped s numbers heads l n (k + 1) w w″
   stepped-more k w w′ w″ done new = record {
     len = new .len ∙ done .len;
-    each = λ j d h i. pick j d h i (decLt j k);
+    each = λ j x h i. pick j x h i (decLt j k);
     above = λ x h. new .above x (omega (arith, sum-more (look (s .periods)) k)) ∙ done .above x (omega (arith, sum-more (look (s .periods)) k));
   }
     where
-      pick : (j d : ℕ) → j < k + 1 → d < period s j → Dec (j < k) → look w″ (total (s .periods) j + d) ≡ stepAt s numbers heads l w j d
-      pick j d h i (yes a) = new .below (total (s .periods) j + d) (omega (arith, sum-before (look (s .periods)) j k a)) ∙ done .each j d a i
-      pick j d h i (no a) = let same : j ≡ k = omega arith in last j same d i
+      pick : (j x : ℕ) → j < k + 1 → x < period s j → Dec (j < k) → look w″ (total (s .periods) j + x) ≡ stepAt s numbers heads l n w j x
+      pick j x h i (yes a) = new .below (total (s .periods) j + x) (omega (arith, sum-before (look (s .periods)) j k a)) ∙ done .each j x a i
+      pick j x h i (no a) = let same : j ≡ k = omega arith in last j same x i
         where
-          last : (j : ℕ) → j ≡ k → (d : ℕ) → d < period s j → look w″ (total (s .periods) j + d) ≡ stepAt s numbers heads l w j d
-          last j e = rw e (λ d i. new .here d i ∙ step-same k w w′ done d)
+          last : (j : ℕ) → j ≡ k → (x : ℕ) → x < period s j → look w″ (total (s .periods) j + x) ≡ stepAt s numbers heads l n w j x
+          last j e = rw e (λ x i. new .here x i ∙ step-same k w w′ done x)
 
-  pub stepped-at : (k n : ℕ) {w w′ : List ℕ} → k ≡ n → Stepped s numbers heads l k w w′ → Stepped s numbers heads l n w w′
-  stepped-at k n {w} {w′} e h = subst (λ (x : ℕ). Stepped s numbers heads l x w w′) e h
+  pub stepped-at : (j k : ℕ) {w w′ : List ℕ} → j ≡ k → Stepped s numbers heads l n j w w′ → Stepped s numbers heads l n k w w′
+  stepped-at j k {w} {w′} e h = subst (λ (x : ℕ). Stepped s numbers heads l n x w w′) e h
 
 -- a list that is filled from the front, one number more
 pub filled : (f : ℕ → ℕ) (xs : List ℕ) (n v : ℕ) → n < length xs → v ≡ f n → ((k : ℕ) → k < n → look xs k ≡ f k) → (k : ℕ) → k < n + 1 → look (set xs n v) k ≡ f k

@@ -1,10 +1,14 @@
 -- Sums below a number. Assumes nothing.
-use mathlib.Core.Path.{_≡_}
+use mathlib.Core.Path.{_≡_, refl}
 use Prim.Native.Nat.{ℕ, zero, suc, _+_, _≤_, _<_}
 use native.Mathlib.Decide.{decLe}
 use native.Mathlib.Numerals.{add-one}
 use native.Mathlib.Omega.{arith}
 use Rattle.layers.specs.Step.{sumBelow}
+
+pub sum-same : (f g : ℕ → ℕ) (n : ℕ) → ((k : ℕ) → k < n → f k ≡ g k) → sumBelow f n ≡ sumBelow g n
+sum-same f g zero h = refl
+sum-same f g (suc n) h = omega (arith, h n (omega arith), sum-same f g n (λ k l. h k (omega arith)))
 
 pub sum-grows : (f : ℕ → ℕ) (k n : ℕ) → k ≤ n → sumBelow f k ≤ sumBelow f n
 sum-grows f k zero h = let z : k ≡ 0 = omega arith in rw z (omega arith)

@@ -1,18 +1,18 @@
--- A walk over the positions of one remainder changes these and no others; a shift in place; and one change after another. Assumes nothing.
+-- A walk over the positions of one remainder changes these and no others; and one change after another. Assumes nothing.
 use mathlib.Core.Path.{_≡_, refl, sym, ap, _∙_, subst}
 use mathlib.Core.Bool.{Bool, true, false}
 use mathlib.Core.List.{List}
 use mathlib.Core.Logic.{_≢_}
 use Prim.Native.Nat.{ℕ, _+_, _-_, _*_, _/_, _%_, _≤_, _<_, max}
-use native.Mathlib.Nat.{mod-lt, mod-eq-of-lt, mod-add-mod, mod-self, div-add-mod, mul-le-mul-left, add-zero}
+use native.Mathlib.Nat.{mod-eq-of-lt, div-add-mod, mul-le-mul-left, add-zero}
 use native.Mathlib.Decide.{decLt, ℕ-discrete}
 use native.Mathlib.Omega.{arith}
 use lib.ListN.{length, set, length-set}
 use lib.Seq.{getD-set-same, getD-set-other}
 use native.Mathlib.Numerals.{add-one}
-use borrow.Author.Tests.{eq-eqb, ne-eqb, lt-ltb, le-ltb, le-leb, lt-leb}
+use borrow.Author.Tests.{eq-eqb, ne-eqb, le-leb, lt-leb}
 use Rattle.layers.specs.declared.Shape.{Shape}
-use Rattle.layers.specs.Step.{look, Moved, raised, added, next, Shifted, offerOf, offer, due, offered, gained, Renewed}
+use Rattle.layers.specs.Step.{look, Moved, raised, added, offerOf, offer, dueAt, offered, gained}
 use Rattle.layers.proofs.Sums.{sum-grows}
 
 -- between i and i + t no number has i's remainder
@@ -66,68 +66,23 @@ module _ (t r : ℕ) (f : ℕ → ℕ) (w : List ℕ) where
 
 -- The two walks.
 
--- q divides d + 1 exactly where d leaves q - 1
-module _ (q d : ℕ) (pos : 0 < q) where
-  leaves-last : (d + 1) % q ≡ 0 → d % q ≡ q - 1
-  leaves-last e = pick (decLt (d % q + 1) q)
-    where
-      pick : Dec (d % q + 1 < q) → d % q ≡ q - 1
-      pick (yes a) = absurd (omega (arith, mod-eq-of-lt a, mod-add-mod d q 1))
-      pick (no a) = omega (arith, mod-lt d pos)
-
-  last-leaves : d % q ≡ q - 1 → (d + 1) % q ≡ 0
-  last-leaves e = sym (mod-add-mod d q 1) ∙ ap (λ (x : ℕ). (x + 1) % q) e ∙ ap (λ (x : ℕ). x % q) (omega arith) ∙ mod-self q
-
-module _ (q h : ℕ) (pos : 0 < q) where
-  pub raised-on : (d v : ℕ) → d % q ≡ q - 1 → raised q h d v ≡ max v h
+module _ (q r h : ℕ) where
+  pub raised-on : (x v : ℕ) → x % q ≡ r → raised q r h x v ≡ max v h
   unfolding raised
-  raised-on d v e = rw (eq-eqb _ _ (last-leaves q d pos e))
+  raised-on x v e = rw (eq-eqb _ _ e)
 
-  pub raised-off : (d v : ℕ) → d % q ≢ q - 1 → raised q h d v ≡ v
+  pub raised-off : (x v : ℕ) → x % q ≢ r → raised q r h x v ≡ v
   unfolding raised
-  raised-off d v n = rw (ne-eqb _ _ (λ z. n (leaves-last q d pos z))) (omega arith)
+  raised-off x v n = rw (ne-eqb _ _ n) (omega arith)
 
-module _ (p o g : ℕ) where
-  pub added-on : (d v : ℕ) → d % p ≡ o → added p o g d v ≡ v + g
+module _ (p r g : ℕ) where
+  pub added-on : (x v : ℕ) → x % p ≡ r → added p r g x v ≡ v + g
   unfolding added
-  added-on d v e = rw (eq-eqb _ _ e)
+  added-on x v e = rw (eq-eqb _ _ e)
 
-  pub added-off : (d v : ℕ) → d % p ≢ o → added p o g d v ≡ v
+  pub added-off : (x v : ℕ) → x % p ≢ r → added p r g x v ≡ v
   unfolding added
-  added-off d v n = rw (ne-eqb _ _ n) (add-zero v)
-
--- A shift in place that has come to i.
-pub record Shifting (w w′ : List ℕ) (i : ℕ) : Type 0 where
-  pub len : length w′ ≡ length w
-  pub done : (d : ℕ) → d < i → look w′ d ≡ look w (d + 1)
-  pub ahead : (d : ℕ) → i ≤ d → look w′ d ≡ look w d
-
-pub shift-start : (w : List ℕ) → Shifting w w 0
-shift-start w = record { len = refl; done = λ d h. absurd (omega arith); ahead = λ d h. refl }
-
-pub shift-step : (w w′ : List ℕ) (i : ℕ) → i < length w → Shifting w w′ i → Shifting w (set w′ i (look w′ (i + 1))) (i + 1)
-shift-step w w′ i h s = record {
-  len = length-set w′ i _ ∙ s .len;
-  done = λ d k. pick d k (decLt d i);
-  ahead = λ d k. getD-set-other w′ i d _ 0 (omega arith) ∙ s .ahead d (omega arith);
-}
-  where
-    pick : (d : ℕ) → d < i + 1 → Dec (d < i) → look (set w′ i (look w′ (i + 1))) d ≡ look w (d + 1)
-    pick d k (yes a) = getD-set-other w′ i d _ 0 (omega arith) ∙ s .done d a
-    pick d k (no a) =
-        let same : d ≡ i = omega arith in
-        rw same (getD-set-same w′ i _ 0 (omega (arith, s .len)) ∙ s .ahead (i + 1) (omega arith))
-
-pub shift-end : (w w′ : List ℕ) (i : ℕ) → i + 1 ≡ length w → Shifting w w′ i → Shifted w (set w′ i (look w 0))
-unfolding next
-shift-end w w′ i e s = record { len = length-set w′ i _ ∙ s .len; each = λ d h. pick d h (decLt (d + 1) (length w)) }
-  where
-    pick : (d : ℕ) → d < length w → Dec (d + 1 < length w) → look (set w′ i (look w 0)) d ≡ look w (next (length w) d)
-    pick d h (yes a) = rw (lt-ltb _ _ a) (getD-set-other w′ i d _ 0 (omega arith) ∙ s .done d (omega arith))
-    pick d h (no a) =
-        let last : length w ≤ d + 1 = omega arith in
-        let same : d ≡ i = omega arith in
-        rw (le-ltb _ _ last) (ap (look (set w′ i (look w 0))) same ∙ getD-set-same w′ i _ 0 (omega (arith, s .len)))
+  added-off x v n = rw (ne-eqb _ _ n) (add-zero v)
 
 -- One change, none, and one after another.
 
@@ -148,56 +103,50 @@ moved-more u x y w w′ w″ h a b = record { len = b .len ∙ a .len; each = λ
 
 -- One switch, and one task.
 
-module _ (listed : Bool) (q head : ℕ) where
-  pub offer-listed : listed ≡ true → (d v : ℕ) → raised q head d v ≡ max v (offerOf listed q head d)
+module _ (listed : Bool) (q head n : ℕ) where
+  pub offer-listed : listed ≡ true → (x v : ℕ) → raised q (n % q) head x v ≡ max v (offerOf listed q head n x)
   unfolding raised offerOf
-  offer-listed h d v = rw h
+  offer-listed h x v = rw h
 
-  pub offer-not : listed ≡ false → (d v : ℕ) → max v (offerOf listed q head d) ≡ v
+  pub offer-not : listed ≡ false → (x v : ℕ) → max v (offerOf listed q head n x) ≡ v
   unfolding offerOf
-  offer-not h d v = rw h (omega arith)
+  offer-not h x v = rw h (omega arith)
 
-module _ (tasks : List ℕ) (l i : ℕ) where
-  pub due-within : look tasks (4 * i + 2) ≤ l → (d v : ℕ) → added (look tasks (4 * i + 3)) (look tasks (4 * i)) (look tasks (4 * i + 1)) d v ≡ v + due tasks l d i
-  unfolding added due
-  due-within h d v = rw (le-leb _ _ h)
+module _ (tasks : List ℕ) (l n i : ℕ) where
+  -- where the task's releases stand
+  abbrev Start : ℕ
+  Start = (look tasks (4 * i) + (n + 1)) % look tasks (4 * i + 3)
 
-  pub due-at : (d : ℕ) → look tasks (4 * i + 2) ≤ l → d % look tasks (4 * i + 3) ≡ look tasks (4 * i) → due tasks l d i ≡ look tasks (4 * i + 1)
-  unfolding due
-  due-at d h e = rw (le-leb _ _ h, eq-eqb _ _ e)
+  pub due-within : look tasks (4 * i + 2) ≤ l → (x v : ℕ) → added (look tasks (4 * i + 3)) Start (look tasks (4 * i + 1)) x v ≡ v + dueAt tasks l n x i
+  unfolding added dueAt
+  due-within h x v = rw (le-leb _ _ h)
 
-  pub due-late : l < look tasks (4 * i + 2) → (d v : ℕ) → v + due tasks l d i ≡ v
-  unfolding due
-  due-late h d v = rw (lt-leb _ _ h) (add-zero v)
+  pub due-at : (x : ℕ) → look tasks (4 * i + 2) ≤ l → x % look tasks (4 * i + 3) ≡ Start → dueAt tasks l n x i ≡ look tasks (4 * i + 1)
+  unfolding dueAt
+  due-at x h e = rw (le-leb _ _ h, eq-eqb _ _ e)
 
--- The first n switches, and the first n tasks.
+  pub due-late : l < look tasks (4 * i + 2) → (x v : ℕ) → v + dueAt tasks l n x i ≡ v
+  unfolding dueAt
+  due-late h x v = rw (lt-leb _ _ h) (add-zero v)
 
-pub offered-none : (s : Shape) (k : ℕ) (heads : List ℕ) (d v : ℕ) → offered s k heads 0 d v ≡ v
+-- The first j switches, and the first j tasks.
+
+pub offered-none : (s : Shape) (k : ℕ) (heads : List ℕ) (n x v : ℕ) → offered s k heads n 0 x v ≡ v
 unfolding offered
-offered-none s k heads d v = omega arith
+offered-none s k heads n x v = omega arith
 
-pub offered-more : (s : Shape) (k : ℕ) (heads : List ℕ) (n d v : ℕ) → max (offered s k heads n d v) (offer s k heads d n) ≡ offered s k heads (n + 1) d v
+pub offered-more : (s : Shape) (k : ℕ) (heads : List ℕ) (n j x v : ℕ) → max (offered s k heads n j x v) (offer s k heads n x j) ≡ offered s k heads n (j + 1) x v
 unfolding offered
-offered-more s k heads n d v = rw (add-one n) (omega arith)
+offered-more s k heads n j x v = rw (add-one j) (omega arith)
 
-pub gained-none : (tasks : List ℕ) (l d v : ℕ) → gained tasks l 0 d v ≡ v
+pub gained-none : (tasks : List ℕ) (l n x v : ℕ) → gained tasks l n 0 x v ≡ v
 unfolding gained
-gained-none tasks l d v = add-zero v
+gained-none tasks l n x v = add-zero v
 
-pub gained-more : (tasks : List ℕ) (l n d v : ℕ) → gained tasks l n d v + due tasks l d n ≡ gained tasks l (n + 1) d v
+pub gained-more : (tasks : List ℕ) (l n j x v : ℕ) → gained tasks l n j x v + dueAt tasks l n x j ≡ gained tasks l n (j + 1) x v
 unfolding gained
-gained-more tasks l n d v = rw (add-one n) (omega arith)
+gained-more tasks l n j x v = rw (add-one j) (omega arith)
 
-pub gained-grows : (tasks : List ℕ) (l d v k n : ℕ) → k ≤ n → gained tasks l k d v ≤ gained tasks l n d v
+pub gained-grows : (tasks : List ℕ) (l n x v i j : ℕ) → i ≤ j → gained tasks l n i x v ≤ gained tasks l n j x v
 unfolding gained
-gained-grows tasks l d v k n h = omega (arith, sum-grows (due tasks l d) k n h)
-
--- a shift, then the switches, then the tasks
-pub renewed : (s : Shape) (k : ℕ) (tasks heads : List ℕ) (l : ℕ) (w a b c : List ℕ) → Shifted w a → Moved (offered s k heads (s .modes)) a b
-    → Moved (gained tasks l (length tasks / 4)) b c → Renewed s k tasks heads l w c
-renewed s k tasks heads l w a b c f g h = record {
-  len = h .len ∙ g .len ∙ f .len;
-  each = λ d x.
-      h .each d (omega (arith, g .len, f .len))
-      ∙ ap (gained tasks l (length tasks / 4) d) (g .each d (omega (arith, f .len)) ∙ ap (offered s k heads (s .modes) d) (f .each d x));
-}
+gained-grows tasks l n x v i j h = omega (arith, sum-grows (dueAt tasks l n x) i j h)

@@ -2,9 +2,10 @@
 use mathlib.Core.Path.{_≡_}
 use mathlib.Core.Bool.{true}
 use mathlib.Core.List.{List, List·Memᴰ}
-use Prim.Native.Nat.{ℕ, _+_, _^_, _≤_, _<_}
+use Prim.Native.Nat.{ℕ, _+_, _%_, _^_, _≤_, _<_}
+use lib.Dec.{ltb}
 use lib.ListN.{length}
-use Rattle.model.specs.Lists.{maxOf}
+use Rattle.model.specs.Lists.{when, maxOf}
 use Rattle.model.specs.Sheet.{Switch, Module}
 use Rattle.model.specs.WellFormed.{ModuleRule}
 use Rattle.model.specs.Flat.{taskNumbers}
@@ -21,14 +22,18 @@ place m k d = sumBelow (λ j. modeAt m j .period) k + d
 abbrev pub statesOf : Module → ℕ
 statesOf m = place m (length (m .modes)) 0
 
--- w holds f of each state, at its place
-pub record Holds (m : Module) (f : State → ℕ) (w : List ℕ) : Type 0 where
+-- w, after n steps, holds f of each state: of mode time d of the mode k at the place n further on in the mode's part
+pub record Holds (m : Module) (n : ℕ) (f : State → ℕ) (w : List ℕ) : Type 0 where
   pub room : statesOf m ≤ length w
-  pub holds : (k d : ℕ) → k < length (m .modes) → d < modeAt m k .period → look w (place m k d) ≡ f (at k d)
+  pub holds : (k d : ℕ) → k < length (m .modes) → d < modeAt m k .period → look w (place m k ((d + n) % modeAt m k .period)) ≡ f (at k d)
 
 -- w holds the largest demand in L ticks from each state
 abbrev pub Layer : Module → ℕ → List ℕ → Type 0
-Layer m L w = Holds m (value m 0 L) w
+Layer m L w = Holds m L (value m 0 L) w
+
+-- the mode time after d in a mode of period p that is not left
+unfoldable pub next : ℕ → ℕ → ℕ
+next p d = when (ltb (d + 1) p) (d + 1)
 
 -- one tick earlier, for f a tick later: what the state gains of instances due within l ticks, and the largest of the next states
 abbrev pub earlier : Module → ℕ → (State → ℕ) → State → ℕ
@@ -77,10 +82,10 @@ pub record Steppable (s : Shape) (numbers w : List ℕ) : Type 0 where
   pub rule : ModuleRule owner
   pub told : Told owner s numbers
   pub room : total (s .periods) (s .modes) ≤ length w
-  pub low : (k d : ℕ) → k < s .modes → d < period s k → look w (total (s .periods) k + d) + 16384 < 2 ^ 32
+  pub low : (k x : ℕ) → k < s .modes → x < period s k → look w (total (s .periods) k + x) + 16384 < 2 ^ 32
 
--- of whichever module the numbers tell, and whichever numbers w holds of its states, w′ holds those of one tick earlier
-pub record SteppedBy (s : Shape) (numbers : List ℕ) (l : ℕ) (w w′ : List ℕ) : Type 0 where
+-- of whichever module the numbers tell, and whichever numbers w holds of its states after n steps, w′ holds those of one tick earlier
+pub record SteppedBy (s : Shape) (numbers : List ℕ) (l n : ℕ) (w w′ : List ℕ) : Type 0 where
   pub len : length w′ ≡ length w
-  pub holds : (m : Module) → ModuleRule m → Told m s numbers → (f : State → ℕ) → Holds m f w → Holds m (earlier m l f) w′
+  pub holds : (m : Module) → ModuleRule m → Told m s numbers → (f : State → ℕ) → Holds m n f w → Holds m (n + 1) (earlier m l f) w′
   pub above : (x : ℕ) → total (s .periods) (s .modes) ≤ x → look w′ x ≡ look w x

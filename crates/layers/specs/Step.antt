@@ -3,7 +3,7 @@ use mathlib.Core.Path.{_≡_}
 use mathlib.Core.Bool.{Bool, true, false, _&&_}
 use mathlib.Core.List.{List}
 use Prim.Native.Nat.{ℕ, zero, suc, _+_, _-_, _*_, _/_, _%_, _≤_, _<_, max}
-use lib.Dec.{ltb, leb, eqb}
+use lib.Dec.{leb, eqb}
 use lib.ListN.{length, getD, take, drop}
 use Rattle.model.specs.Lists.{when, maxBelow}
 use Rattle.layers.specs.declared.Shape.{Shape}
@@ -39,73 +39,67 @@ tasksOf s numbers k = take (look (s .starts) (k + 1) - look (s .starts) k) (drop
 
 -- What stands at each position of a mode's part.
 
--- w′ holds at each position d what u makes of what w held there
+-- w′ holds at each position x what u makes of what w held there
 pub record Moved (u : ℕ → ℕ → ℕ) (w w′ : List ℕ) : Type 0 where
   pub len : length w′ ≡ length w
-  pub each : (d : ℕ) → d < length w → look w′ d ≡ u d (look w d)
+  pub each : (x : ℕ) → x < length w → look w′ x ≡ u x (look w x)
 
--- at least h where q divides d + 1
-unfoldable pub raised : ℕ → ℕ → ℕ → ℕ → ℕ
-raised q h d v = max v (when (eqb ((d + 1) % q) 0) h)
+-- at least h where x, divided by q, leaves r
+unfoldable pub raised : ℕ → ℕ → ℕ → ℕ → ℕ → ℕ
+raised q r h x v = max v (when (eqb (x % q) r) h)
 
--- g more where d, divided by p, leaves o
+-- g more where x, divided by p, leaves r
 unfoldable pub added : ℕ → ℕ → ℕ → ℕ → ℕ → ℕ
-added p o g d v = v + when (eqb (d % p) o) g
+added p r g x v = v + when (eqb (x % p) r) g
 
--- the mode time after d in a mode of period p that is not left
-unfoldable pub next : ℕ → ℕ → ℕ
-next p d = when (ltb (d + 1) p) (d + 1)
+-- A part is kept turned: after n steps the number of mode time d stands n positions further on. So a step moves no number. After step n + 1
+-- the switches of period q are open one tick after the mode times whose numbers stand where n is left, divided by q, and a task releases at
+-- those whose numbers stand where its offset and n + 1 more are left, divided by its period.
 
--- w′ holds at each position what w held at the next
-pub record Shifted (w w′ : List ℕ) : Type 0 where
-  pub len : length w′ ≡ length w
-  pub each : (d : ℕ) → d < length w → look w′ d ≡ look w (next (length w) d)
+-- the head of a target that is listed and whose switch, of period q, is open
+unfoldable pub offerOf : Bool → ℕ → ℕ → ℕ → ℕ → ℕ
+offerOf listed q head n x = when (listed && eqb (x % q) (n % q)) head
 
--- the head of a target that is listed and whose switch, of period q, is open one tick after mode time d
-unfoldable pub offerOf : Bool → ℕ → ℕ → ℕ → ℕ
-offerOf listed q head d = when (listed && eqb ((d + 1) % q) 0) head
+abbrev pub offer : Shape → ℕ → List ℕ → ℕ → ℕ → ℕ → ℕ
+offer s k heads n x t = offerOf (lists s k t) (every s k t) (look heads t) n x
 
-abbrev pub offer : Shape → ℕ → List ℕ → ℕ → ℕ → ℕ
-offer s k heads d t = offerOf (lists s k t) (every s k t) (look heads t) d
-
--- the gain of task i, where it releases at mode time d an instance that is due within l ticks
+-- the gain of task i, where it releases an instance that is due within l ticks: at mode time d, and at the position x
 unfoldable pub due : List ℕ → ℕ → ℕ → ℕ → ℕ
 due tasks l d i = when (leb (look tasks (4 * i + 2)) l && eqb (d % look tasks (4 * i + 3)) (look tasks (4 * i))) (look tasks (4 * i + 1))
 
--- v or the largest head that the first n targets offer; v and what the first n tasks gain
-unfoldable pub offered : Shape → ℕ → List ℕ → ℕ → ℕ → ℕ → ℕ
-offered s k heads n d v = max v (maxBelow (offer s k heads d) n)
+unfoldable pub dueAt : List ℕ → ℕ → ℕ → ℕ → ℕ → ℕ
+dueAt tasks l n x i =
+    when (leb (look tasks (4 * i + 2)) l && eqb (x % look tasks (4 * i + 3)) ((look tasks (4 * i) + (n + 1)) % look tasks (4 * i + 3))) (look tasks (4 * i + 1))
 
-unfoldable pub gained : List ℕ → ℕ → ℕ → ℕ → ℕ → ℕ
-gained tasks l n d v = v + sumBelow (due tasks l d) n
+-- v or the largest head that the first j targets offer; v and what the first j tasks gain
+unfoldable pub offered : Shape → ℕ → List ℕ → ℕ → ℕ → ℕ → ℕ → ℕ
+offered s k heads n j x v = max v (maxBelow (offer s k heads n x) j)
 
--- one tick earlier: the number at mode time d of the mode k for l ticks, from v, the one at the next mode time for a tick less
-abbrev pub stepped : Shape → ℕ → List ℕ → List ℕ → ℕ → ℕ → ℕ → ℕ
-stepped s k tasks heads l d v = gained tasks l (length tasks / 4) d (offered s k heads (s .modes) d v)
+unfoldable pub gained : List ℕ → ℕ → ℕ → ℕ → ℕ → ℕ → ℕ
+gained tasks l n j x v = v + sumBelow (dueAt tasks l n x) j
 
--- a mode's part is one step further
-pub record Renewed (s : Shape) (k : ℕ) (tasks heads : List ℕ) (l : ℕ) (w w′ : List ℕ) : Type 0 where
-  pub len : length w′ ≡ length w
-  pub each : (d : ℕ) → d < length w → look w′ d ≡ stepped s k tasks heads l d (look w (next (length w) d))
+-- one tick earlier: the number at position x of the mode k for l ticks, from v, the one that stood there
+abbrev pub stepped : Shape → ℕ → List ℕ → List ℕ → ℕ → ℕ → ℕ → ℕ → ℕ
+stepped s k tasks heads l n x v = gained tasks l n (length tasks / 4) x (offered s k heads n (s .modes) x v)
 
 -- What stands in the layer.
 
--- what the step makes of the layer w at mode time d of the mode k
-abbrev pub stepAt : Shape → List ℕ → List ℕ → ℕ → List ℕ → ℕ → ℕ → ℕ
-stepAt s numbers heads l w k d = stepped s k (tasksOf s numbers k) heads l d (look w (total (s .periods) k + next (period s k) d))
+-- what step n + 1 makes of the layer w at position x of the mode k
+abbrev pub stepAt : Shape → List ℕ → List ℕ → ℕ → ℕ → List ℕ → ℕ → ℕ → ℕ
+stepAt s numbers heads l n w k x = stepped s k (tasksOf s numbers k) heads l n x (look w (total (s .periods) k + x))
 
 -- the part of the mode k is one step further, and nothing else has changed
-pub record Replaced (s : Shape) (numbers heads : List ℕ) (l k : ℕ) (w w′ : List ℕ) : Type 0 where
+pub record Replaced (s : Shape) (numbers heads : List ℕ) (l n k : ℕ) (w w′ : List ℕ) : Type 0 where
   pub len : length w′ ≡ length w
-  pub here : (d : ℕ) → d < period s k → look w′ (total (s .periods) k + d) ≡ stepAt s numbers heads l w k d
+  pub here : (x : ℕ) → x < period s k → look w′ (total (s .periods) k + x) ≡ stepAt s numbers heads l n w k x
   pub below : (x : ℕ) → x < total (s .periods) k → look w′ x ≡ look w x
   pub above : (x : ℕ) → total (s .periods) k + period s k ≤ x → look w′ x ≡ look w x
 
--- the parts of the modes below n are one step further, and nothing else has changed
-pub record Stepped (s : Shape) (numbers heads : List ℕ) (l n : ℕ) (w w′ : List ℕ) : Type 0 where
+-- the parts of the modes below j are one step further, and nothing else has changed
+pub record Stepped (s : Shape) (numbers heads : List ℕ) (l n j : ℕ) (w w′ : List ℕ) : Type 0 where
   pub len : length w′ ≡ length w
-  pub each : (k d : ℕ) → k < n → d < period s k → look w′ (total (s .periods) k + d) ≡ stepAt s numbers heads l w k d
-  pub above : (x : ℕ) → total (s .periods) n ≤ x → look w′ x ≡ look w x
+  pub each : (k x : ℕ) → k < j → x < period s k → look w′ (total (s .periods) k + x) ≡ stepAt s numbers heads l n w k x
+  pub above : (x : ℕ) → total (s .periods) j ≤ x → look w′ x ≡ look w x
 
 -- the first n numbers are 0, and nothing else has changed
 pub record Cleared (n : ℕ) (w w′ : List ℕ) : Type 0 where

@@ -4,7 +4,7 @@ ghost use mathlib.Core.Bool.{true};
 ghost use Prim.Native.Nat.{ℕ, _+_, _*_, _/_, _%_, _^_, _<_, _≤_, max};
 ghost use lib.ListN.{length};
 ghost use Rattle.model.specs.Lists.{maxBelow};
-ghost use Rattle.layers.specs.Step.{look, total, period, lists, every, Moved, raised, added, next, Shifted, offerOf, due, offered, gained, stepped, Renewed, stepAt, Replaced, Stepped, Cleared, TasksReady, ModeReady, Ready};
+ghost use Rattle.layers.specs.Step.{look, total, period, lists, every, Moved, raised, added, offerOf, dueAt, offered, gained, stepped, stepAt, Replaced, Stepped, Cleared, TasksReady, ModeReady, Ready};
 ghost use Rattle.layers.specs.Layer.{IsLayer, Advanced, Steppable, SteppedBy};
 
 // What a module is to the engine, beside its tasks.
@@ -25,172 +25,175 @@ pub fn larger(a: u32, b: u32) -> u32
     if a < b { b } else { a }
 }
 
-// Each position d with every | d + 1 is raised to head.
-fn raise(part: &mut [u32], every: u16, head: u32)
-    requires { ⌜ 0 < every ⌝ }
-    ensures { λ _. ⌜ Moved (raised every head) (now (part .entry)) (now (part .exit)) ⌝ }
+// What x leaves, divided by p; no division where x is below p.
+pub fn rest(x: usize, p: usize) -> usize
+    requires { ⌜ 0 < p ⌝ }
+    ensures { λ r. ⌜ r ≡ x % p ⌝ }
+{
+    if x < p { x } else { x % p }
+}
+
+// Each position that leaves the start, divided by the step, is raised to head.
+fn raise(part: &mut [u32], start: usize, every: u16, head: u32)
+    requires { ⌜ start < every ⌝ }
+    ensures { λ _. ⌜ Moved (raised every start head) (now (part .entry)) (now (part .exit)) ⌝ }
 {
     let step = every as usize;
-    let mut d = step - 1;
-    while d < part.len() {
-        part[d] = larger(part[d], head);
-        d += step;
+    let mut x = start;
+    while x < part.len() {
+        part[x] = larger(part[x], head);
+        x += step;
     }
 }
 
-// The gain is added at each position d with d % period = offset.
-fn add(part: &mut [u32], period: u16, offset: u16, gain: u16)
-    requires { ⌜ offset < period ⌝ }
-    requires { ⌜ ((d : ℕ) → d < length (now part) → d % period ≡ offset → look (now part) d + gain < 2 ^ 32) ⌝ }
-    ensures { λ _. ⌜ Moved (added period offset gain) (now (part .entry)) (now (part .exit)) ⌝ }
+// The gain is added at each position that leaves the start, divided by the step.
+fn add(part: &mut [u32], start: usize, every: u16, gain: u16)
+    requires { ⌜ start < every ⌝ }
+    requires { ⌜ ((x : ℕ) → x < length (now part) → x % every ≡ start → look (now part) x + gain < 2 ^ 32) ⌝ }
+    ensures { λ _. ⌜ Moved (added every start gain) (now (part .entry)) (now (part .exit)) ⌝ }
 {
-    let step = period as usize;
+    let step = every as usize;
     let more = gain as u32;
-    let mut d = offset as usize;
-    while d < part.len() {
-        part[d] = part[d] + more;
-        d += step;
+    let mut x = start;
+    while x < part.len() {
+        part[x] = part[x] + more;
+        x += step;
     }
-}
-
-// Each position takes what the next one held, the last what the first held.
-fn shift(part: &mut [u32])
-    requires { ⌜ 0 < length (now part) ⌝ }
-    ensures { λ _. ⌜ Shifted (now (part .entry)) (now (part .exit)) ⌝ }
-{
-    let head = part[0];
-    let last = part.len() - 1;
-    let mut d = 0;
-    while d < last {
-        part[d] = part[d + 1];
-        d += 1;
-    }
-    part[last] = head;
 }
 
 // A target of the mode, where it is listed.
-fn switch(part: &mut [u32], listed: bool, every: u16, head: u32)
+fn switch(part: &mut [u32], n: usize, listed: bool, every: u16, head: u32)
     requires { ⌜ (listed ≡ true → 1 ≤ every) ⌝ }
-    ensures { λ _. ⌜ Moved (λ d v. max v (offerOf listed every head d)) (now (part .entry)) (now (part .exit)) ⌝ }
+    ensures { λ _. ⌜ Moved (λ x v. max v (offerOf listed every head n x)) (now (part .entry)) (now (part .exit)) ⌝ }
 {
     if listed {
-        raise(part, every, head);
+        raise(part, n % every as usize, every, head);
     }
 }
 
 // All targets of mode k.
-fn switches(part: &mut [u32], shape: Shape, k: usize, heads: &[u32; 8])
+fn switches(part: &mut [u32], n: usize, shape: Shape, k: usize, heads: &[u32; 8])
     requires { ⌜ (k < 8) × (shape .modes ≤ 8) × ((t : ℕ) → t < shape .modes → lists shape k t ≡ true → 1 ≤ every shape k t) ⌝ }
-    ensures { λ _. ⌜ Moved (offered shape k (now (heads .entry)) (shape .modes)) (now (part .entry)) (now (part .exit)) ⌝ }
+    ensures { λ _. ⌜ Moved (offered shape k (now (heads .entry)) n (shape .modes)) (now (part .entry)) (now (part .exit)) ⌝ }
 {
-    let n = shape.modes;
+    let modes = shape.modes;
     let mut t = 0;
-    while t < n {
+    while t < modes {
         let at = 8 * k + t;
-        switch(part, shape.listed[at], shape.every[at], heads[t]);
+        switch(part, n, shape.listed[at], shape.every[at], heads[t]);
         t += 1;
     }
 }
 
 // Task i, with l ticks left.
-fn release(part: &mut [u32], l: usize, tasks: &[u16], i: usize)
-    requires { ⌜ (i < length (now tasks) / 4) × (look (now tasks) (4 * i) < look (now tasks) (4 * i + 3)) ⌝ }
-    requires { ⌜ ((d : ℕ) → d < length (now part) → look (now part) d + due (now tasks) l d i < 2 ^ 32) ⌝ }
-    ensures { λ _. ⌜ Moved (λ d v. v + due (now (tasks .entry)) l d i) (now (part .entry)) (now (part .exit)) ⌝ }
+fn release(part: &mut [u32], l: usize, n: usize, tasks: &[u16], i: usize)
+    requires { ⌜ (n ≤ 2000) × (i < length (now tasks) / 4) × (look (now tasks) (4 * i) < look (now tasks) (4 * i + 3)) ⌝ }
+    requires { ⌜ ((x : ℕ) → x < length (now part) → look (now part) x + dueAt (now tasks) l n x i < 2 ^ 32) ⌝ }
+    ensures { λ _. ⌜ Moved (λ x v. v + dueAt (now (tasks .entry)) l n x i) (now (part .entry)) (now (part .exit)) ⌝ }
 {
     let window = tasks[4 * i + 2] as usize;
     if window <= l {
-        let offset = tasks[4 * i];
         let gain = tasks[4 * i + 1];
-        add(part, tasks[4 * i + 3], offset, gain);
+        let every = tasks[4 * i + 3];
+        let start = (tasks[4 * i] as usize + (n + 1)) % every as usize;
+        add(part, start, every, gain);
     }
 }
 
-fn releases(part: &mut [u32], l: usize, tasks: &[u16])
-    requires { ⌜ TasksReady (now tasks) ⌝ }
-    requires { ⌜ ((d : ℕ) → d < length (now part) → gained (now tasks) l (length (now tasks) / 4) d (look (now part) d) < 2 ^ 32) ⌝ }
-    ensures { λ _. ⌜ Moved (gained (now (tasks .entry)) l (length (now (tasks .entry)) / 4)) (now (part .entry)) (now (part .exit)) ⌝ }
+fn releases(part: &mut [u32], l: usize, n: usize, tasks: &[u16])
+    requires { ⌜ (n ≤ 2000) × (TasksReady (now tasks)) ⌝ }
+    requires { ⌜ ((x : ℕ) → x < length (now part) → gained (now tasks) l n (length (now tasks) / 4) x (look (now part) x) < 2 ^ 32) ⌝ }
+    ensures { λ _. ⌜ Moved (gained (now (tasks .entry)) l n (length (now (tasks .entry)) / 4)) (now (part .entry)) (now (part .exit)) ⌝ }
 {
-    let n = tasks.len() / 4;
+    let count = tasks.len() / 4;
     let mut i = 0;
-    while i < n {
-        release(part, l, tasks, i);
+    while i < count {
+        release(part, l, n, tasks, i);
         i += 1;
     }
 }
 
-// The part of mode k, for so many ticks, becomes that for one tick more, which makes l.
-fn renew(part: &mut [u32], l: usize, tasks: &[u16], shape: Shape, k: usize, heads: &[u32; 8])
-    requires { ⌜ (0 < length (now part)) × (k < 8) × (shape .modes ≤ 8) × (TasksReady (now tasks)) × ((t : ℕ) → t < shape .modes → lists shape k t ≡ true → 1 ≤ every shape k t) ⌝ }
-    requires { ⌜ ((d : ℕ) → d < length (now part) → stepped shape k (now tasks) (now heads) l d (look (now part) (next (length (now part)) d)) < 2 ^ 32) ⌝ }
-    ensures { λ _. ⌜ Renewed shape k (now (tasks .entry)) (now (heads .entry)) l (now (part .entry)) (now (part .exit)) ⌝ }
+// The part of mode k after n steps becomes that after one more: the numbers of one tick earlier, where instances gain that are due within l ticks.
+fn renew(
+    part: &mut [u32],
+    l: usize,
+    n: usize,
+    tasks: &[u16],
+    shape: Shape,
+    k: usize,
+    heads: &[u32; 8],
+)
+    requires { ⌜ (n ≤ 2000) × (k < 8) × (shape .modes ≤ 8) × (TasksReady (now tasks)) × ((t : ℕ) → t < shape .modes → lists shape k t ≡ true → 1 ≤ every shape k t) ⌝ }
+    requires { ⌜ ((x : ℕ) → x < length (now part) → stepped shape k (now tasks) (now heads) l n x (look (now part) x) < 2 ^ 32) ⌝ }
+    ensures { λ _. ⌜ Moved (stepped shape k (now (tasks .entry)) (now (heads .entry)) l n) (now (part .entry)) (now (part .exit)) ⌝ }
 {
-    shift(part);
-    switches(part, shape, k, heads);
-    releases(part, l, tasks);
+    switches(part, n, shape, k, heads);
+    releases(part, l, n, tasks);
 }
 
 // The same in the layer, where the part begins at from. Where it ends is handed back.
 fn replace(
     layer: &mut [u32],
     l: usize,
+    n: usize,
     shape: Shape,
     numbers: &[u16],
     k: usize,
     from: usize,
     heads: &[u32; 8],
 ) -> usize
-    requires { ⌜ (from ≡ total (shape .periods) k) × (from + period shape k ≤ length (now layer)) × (k < shape .modes) × (shape .modes ≤ 8) × (ModeReady shape (now numbers) k) ⌝ }
-    requires { ⌜ ((d : ℕ) → d < period shape k → stepAt shape (now numbers) (now heads) l (now layer) k d < 2 ^ 32) ⌝ }
-    ensures { λ r. ⌜ (r ≡ total (shape .periods) (k + 1)) × (Replaced shape (now (numbers .entry)) (now (heads .entry)) l k (now (layer .entry)) (now (layer .exit))) ⌝ }
+    requires { ⌜ (n ≤ 2000) × (from ≡ total (shape .periods) k) × (from + period shape k ≤ length (now layer)) × (k < shape .modes) × (shape .modes ≤ 8) × (ModeReady shape (now numbers) k) ⌝ }
+    requires { ⌜ ((x : ℕ) → x < period shape k → stepAt shape (now numbers) (now heads) l n (now layer) k x < 2 ^ 32) ⌝ }
+    ensures { λ r. ⌜ (r ≡ total (shape .periods) (k + 1)) × (Replaced shape (now (numbers .entry)) (now (heads .entry)) l n k (now (layer .entry)) (now (layer .exit))) ⌝ }
 {
     let to = from + shape.periods[k] as usize;
     let a = shape.starts[k] as usize;
     let e = shape.starts[k + 1] as usize;
-    renew(&mut layer[from..to], l, &numbers[a..e], shape, k, heads);
+    renew(&mut layer[from..to], l, n, &numbers[a..e], shape, k, heads);
     to
 }
 
 // All modes' parts.
-fn step(layer: &mut [u32], l: usize, shape: Shape, numbers: &[u16], heads: &[u32; 8])
-    requires { ⌜ (Ready shape (now numbers)) × (total (shape .periods) (shape .modes) ≤ length (now layer)) ⌝ }
-    requires { ⌜ ((k d : ℕ) → k < shape .modes → d < period shape k → stepAt shape (now numbers) (now heads) l (now layer) k d < 2 ^ 32) ⌝ }
-    ensures { λ _. ⌜ Stepped shape (now (numbers .entry)) (now (heads .entry)) l (shape .modes) (now (layer .entry)) (now (layer .exit)) ⌝ }
+fn step(layer: &mut [u32], l: usize, n: usize, shape: Shape, numbers: &[u16], heads: &[u32; 8])
+    requires { ⌜ (n ≤ 2000) × (Ready shape (now numbers)) × (total (shape .periods) (shape .modes) ≤ length (now layer)) ⌝ }
+    requires { ⌜ ((k x : ℕ) → k < shape .modes → x < period shape k → stepAt shape (now numbers) (now heads) l n (now layer) k x < 2 ^ 32) ⌝ }
+    ensures { λ _. ⌜ Stepped shape (now (numbers .entry)) (now (heads .entry)) l n (shape .modes) (now (layer .entry)) (now (layer .exit)) ⌝ }
 {
-    let n = shape.modes;
+    let modes = shape.modes;
     let mut from = 0;
     let mut k = 0;
-    while k < n {
-        from = replace(layer, l, shape, numbers, k, from, heads);
+    while k < modes {
+        from = replace(layer, l, n, shape, numbers, k, from, heads);
         k += 1;
     }
 }
 
-// What stands at mode time 0 of each mode.
-pub fn heads(layer: &[u32], shape: Shape) -> [u32; 8]
+// The numbers of mode time 0 of each mode, after n steps.
+pub fn heads(layer: &[u32], n: usize, shape: Shape) -> [u32; 8]
     requires { ⌜ (shape .modes ≤ 8) × (total (shape .periods) (shape .modes) ≤ length (now layer)) × ((k : ℕ) → k < shape .modes → 1 ≤ period shape k) ⌝ }
-    ensures { λ r. ⌜ ((k : ℕ) → k < shape .modes → look r k ≡ look (now (layer .entry)) (total (shape .periods) k)) ⌝ }
+    ensures { λ r. ⌜ ((k : ℕ) → k < shape .modes → look r k ≡ look (now (layer .entry)) (total (shape .periods) k + n % period shape k)) ⌝ }
 {
-    let n = shape.modes;
+    let modes = shape.modes;
     let mut found = [0u32; 8];
     let mut from = 0;
     let mut k = 0;
-    while k < n {
-        found[k] = layer[from];
-        from += shape.periods[k] as usize;
+    while k < modes {
+        let p = shape.periods[k] as usize;
+        found[k] = layer[from + n % p];
+        from += p;
         k += 1;
     }
     found
 }
 
-// Whatever numbers the layer holds of the states become those of one tick earlier, where instances gain that are due within l ticks. What lies
-// past the module's states stays.
-pub fn advance_by(layer: &mut [u32], l: usize, shape: Shape, numbers: &[u16])
-    requires { ⌜ Steppable shape (now numbers) (now layer) ⌝ }
-    ensures { λ _. ⌜ SteppedBy shape (now (numbers .entry)) l (now (layer .entry)) (now (layer .exit)) ⌝ }
+// Whatever numbers the layer holds of the states after n steps become those of one tick earlier, where instances gain that are due within l
+// ticks. What lies past the module's states stays.
+pub fn advance_by(layer: &mut [u32], l: usize, n: usize, shape: Shape, numbers: &[u16])
+    requires { ⌜ (n ≤ 2000) × (Steppable shape (now numbers) (now layer)) ⌝ }
+    ensures { λ _. ⌜ SteppedBy shape (now (numbers .entry)) l n (now (layer .entry)) (now (layer .exit)) ⌝ }
 {
-    let tops = heads(layer, shape);
-    step(layer, l, shape, numbers, &tops);
+    let tops = heads(layer, n, shape);
+    step(layer, l, n, shape, numbers, &tops);
 }
 
 // The layer for l ticks becomes that for l + 1. What lies past the module's states stays.
@@ -198,7 +201,7 @@ pub fn advance(layer: &mut [u32], l: usize, shape: Shape, numbers: &[u16])
     requires { ⌜ (l < 2000) × (IsLayer shape (now numbers) l (now layer)) ⌝ }
     ensures { λ _. ⌜ Advanced shape (now (numbers .entry)) l (now (layer .entry)) (now (layer .exit)) ⌝ }
 {
-    advance_by(layer, l + 1, shape, numbers);
+    advance_by(layer, l + 1, l, shape, numbers);
 }
 
 // The layer for 0 ticks: the first count numbers become 0, and the others stay.
@@ -241,10 +244,11 @@ pub fn states(periods: [u16; 8], n: usize) -> usize
     sum
 }
 
-// Where mode time d of mode k stands in the layer.
-pub fn place(periods: [u16; 8], k: usize, d: usize) -> usize
-    requires { ⌜ (k ≤ 8) × (d < 65536) ⌝ }
-    ensures { λ r. ⌜ r ≡ total periods k + d ⌝ }
+// Where the number of mode time d of mode k stands in the layer after n steps.
+pub fn place(periods: [u16; 8], k: usize, d: usize, n: usize) -> usize
+    requires { ⌜ (k < 8) × (d < look periods k) × (d < 65536) × (n ≤ 2000) ⌝ }
+    ensures { λ r. ⌜ r ≡ total periods k + (d + n) % look periods k ⌝ }
 {
-    states(periods, k) + d
+    let p = periods[k] as usize;
+    states(periods, k) + (d + n) % p
 }

@@ -55,7 +55,7 @@ pub fn demand_at(
 {
     run_to(layer, l, shape, numbers);
     let periods = shape.periods;
-    let x = layers::place(periods, k, d);
+    let x = layers::place(periods, k, d, l);
     layer[x]
 }
 

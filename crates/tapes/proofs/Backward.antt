@@ -1,15 +1,15 @@
 -- From the end of the interval back: the layer and the heads of a tick, from those of the tick after it. Assumes nothing.
-use mathlib.Core.Path.{_≡_, refl, sym, _∙_, ap}
+use mathlib.Core.Path.{_≡_, refl, sym, _∙_, ap, subst}
 use mathlib.Core.List.{List}
 use Prim.Native.Nat.{ℕ, _+_, _-_, _%_, _^_, _≤_, _<_}
-use native.Mathlib.Nat.{mod-eq-of-lt}
+use native.Mathlib.Nat.{zero-add, sub-self, mod-lt, mod-eq-of-lt}
 use native.Mathlib.Numerals.{add-one}
 use native.Mathlib.Decide.{decLt}
 use native.Mathlib.Omega.{arith}
 use lib.ListN.{length}
 use Rattle.model.specs.Sheet.{Module}
 use Rattle.model.specs.WellFormed.{ModuleRule}
-use Rattle.model.specs.Run.{State as Moment, at}
+use Rattle.model.specs.Run.{State as Moment, at, modeAt}
 use Rattle.model.specs.Demand.{value}
 use Rattle.model.proofs.Bounds.{value-fits}
 use Rattle.model.proofs.Runs.{period-positive}
@@ -17,6 +17,7 @@ use Rattle.layers.specs.declared.Shape.{Shape}
 use Rattle.layers.specs.Step.{look, total, period, Cleared}
 use Rattle.layers.specs.Layer.{place, Holds, earlier, Told, Tells, Each, Steppable, SteppedBy}
 use Rattle.layers.proofs.Bounds.{states-bound}
+use Rattle.layers.proofs.Turns.{turn-back}
 use Rattle.layers.proofs.Layers.{states-told, place-inside, held-told, told-ready, layer-start}
 use Rattle.following.specs.Follow.{counted}
 use Rattle.following.proofs.Ticks.{value-over, value-step}
@@ -25,13 +26,15 @@ use Rattle.tapes.proofs.Pairs.{packed-head, head-same}
 
 -- What a layer holds.
 
-holds-same : (m : Module) (f g : Moment → ℕ) (w : List ℕ) → ((k d : ℕ) → f (at k d) ≡ g (at k d)) → Holds m f w → Holds m g w
-holds-same m f g w same h = record { room = h .room; holds = λ k d l i. h .holds k d l i ∙ same k d }
+holds-same : (m : Module) (n : ℕ) (f g : Moment → ℕ) (w : List ℕ) → ((k d : ℕ) → f (at k d) ≡ g (at k d)) → Holds m n f w → Holds m n g w
+holds-same m n f g w same h = record { room = h .room; holds = λ k d l i. h .holds k d l i ∙ same k d }
 
-holds-kept : (m : Module) → ModuleRule m → (f : Moment → ℕ) (w w′ : List ℕ) → length w′ ≡ length w → ((x : ℕ) → x < 8192 → look w′ x ≡ look w x) → Holds m f w → Holds m f w′
-holds-kept m ok f w w′ len same h = record {
+holds-kept : (m : Module) → ModuleRule m → (n : ℕ) (f : Moment → ℕ) (w w′ : List ℕ) → length w′ ≡ length w → ((x : ℕ) → x < 8192 → look w′ x ≡ look w x) → Holds m n f w → Holds m n f w′
+holds-kept m ok n f w w′ len same h = record {
   room = omega (arith, h .room);
-  holds = λ k d l i. same (place m k d) (omega (arith, place-inside m k d l i, states-bound m ok)) ∙ h .holds k d l i;
+  holds = λ k d l i.
+      let p : ℕ = modeAt m k .period in
+      same (place m k ((d + n) % p)) (omega (arith, place-inside m k ((d + n) % p) l (mod-lt (d + n) (omega arith)), states-bound m ok)) ∙ h .holds k d l i;
 }
 
 pub states-few : (s : Shape) (numbers : List ℕ) → Tells s numbers → total (s .periods) (s .modes) ≤ 8192
@@ -39,15 +42,14 @@ states-few s numbers t = omega (arith, states-told (t .owner) s numbers (t .told
 
 -- The heads of the layer.
 
-pub noted : (s : Shape) (t : ℕ) (tops w w′ : List ℕ) → s .modes ≤ 8 → ((k : ℕ) → k < s .modes → look tops k ≡ look w (total (s .periods) k)) → Packed t 4 tops w w′ → Noted s t w w′
-noted s t tops w w′ few are new = record { len = new .len; heads = heads; below = new .below; above = new .above }
+pub noted : (s : Shape) (t n : ℕ) (tops w w′ : List ℕ) → s .modes ≤ 8 → ((k : ℕ) → k < s .modes → look tops k ≡ look w (total (s .periods) k + n % period s k)) → Packed t 4 tops w w′ → Noted s t n w w′
+noted s t n tops w w′ few are new = record { len = new .len; heads = heads; below = new .below; above = new .above }
   where
-    heads : (m : Module) (numbers : List ℕ) (f : Moment → ℕ) → ModuleRule m → Told m s numbers → Holds m f w
+    heads : (m : Module) (numbers : List ℕ) (f : Moment → ℕ) → ModuleRule m → Told m s numbers → Holds m n f w
         → ((j : ℕ) → j < length (m .modes) → f (at j 0) < 65536) → HeadsAt m f t w′
     heads m numbers f ok told holds low j h =
         let l : j < s .modes = omega (arith, told .modes) in
-        let first : total (s .periods) j ≡ total (s .periods) j + 0 = omega arith in
-        let held : look tops j ≡ f (at j 0) = are j l ∙ ap (look w) first ∙ held-told m s numbers told f w holds j 0 l (told-ready m ok s numbers told .each j l .positive) in
+        let held : look tops j ≡ f (at j 0) = are j l ∙ rw (zero-add n) at (held-told m s numbers told n f w holds j 0 l (told-ready m ok s numbers told .each j l .positive)) in
         packed-head t tops w w′ new j (omega arith) ∙ ap (λ (x : ℕ). x % 65536) held ∙ mod-eq-of-lt (low j h)
 
 module _ (s : Shape) (numbers : List ℕ) (a b : ℕ) (tells : Tells s numbers) (short : b ≤ 2000) where
@@ -56,15 +58,15 @@ module _ (s : Shape) (numbers : List ℕ) (a b : ℕ) (tells : Tells s numbers) 
 
   -- At the end.
 
-  module _ (w w′ w″ : List ℕ) (room : total (s .periods) (s .modes) ≤ length w) (cleared : Cleared (total (s .periods) (s .modes)) w w′) (new : Noted s b w′ w″) where
-    end-layer : Each s numbers (λ m. Holds m (value m (a - b) (b - b)) w′)
+  module _ (w w′ w″ : List ℕ) (room : total (s .periods) (s .modes) ≤ length w) (cleared : Cleared (total (s .periods) (s .modes)) w w′) (new : Noted s b 0 w′ w″) where
+    end-layer : Each s numbers (λ m. Holds m 0 (value m (a - b) (b - b)) w′)
     end-layer m ok told =
-        holds-same m (value m 0 0) (value m (a - b) (b - b)) w′ (λ k d. value-over m (at k d) 0 0 0 (omega arith) ∙ sym (value-over m (at k d) (a - b) b b (omega arith)))
+        holds-same m 0 (value m 0 0) (value m (a - b) (b - b)) w′ (λ k d. value-over m (at k d) 0 0 0 (omega arith) ∙ sym (value-over m (at k d) (a - b) b b (omega arith)))
         (layer-start m s numbers told w w′ room cleared)
 
     pub reached-end : Reached s numbers a b b w″
     reached-end = record {
-      layer = λ m ok told. holds-kept m ok _ w′ w″ (new .len) (λ x l. new .below x (omega arith)) (end-layer m ok told);
+      layer = λ m ok told. subst (λ (n : ℕ). Holds m n (value m (a - b) (b - b)) w″) (sym (sub-self b)) (holds-kept m ok 0 _ w′ w″ (new .len) (λ x l. new .below x (omega arith)) (end-layer m ok told));
       heads = λ m ok told u low high.
           let same : u ≡ b = omega arith in
           rw same (new .heads m numbers (value m (a - b) (b - b)) ok told (end-layer m ok told) (λ j l. first-fits m ok b j));
@@ -82,23 +84,29 @@ module _ (s : Shape) (numbers : List ℕ) (a b : ℕ) (tells : Tells s numbers) 
     pub steppable : total (s .periods) (s .modes) ≤ length w → Steppable s numbers w
     steppable room = record { owner = tells .owner; rule = tells .rule; told = tells .told; room = room; low = low }
       where
-        low : (k d : ℕ) → k < s .modes → d < period s k → look w (total (s .periods) k + d) + 16384 < 2 ^ 32
-        low k d h i =
+        low : (k x : ℕ) → k < s .modes → x < period s k → look w (total (s .periods) k + x) + 16384 < 2 ^ 32
+        low k x h i =
+            let turned = turn-back (period s k) (b - (t + 1)) x i in
+            let d : ℕ = turned .0 in
+            let j : d < period s k = turned .1 in
             let m : Module = tells .owner in
             let f : Moment → ℕ = value m (a - (t + 1)) (b - (t + 1)) in
             let q = tells .told .each k h .period in
-            omega (arith, held-told m s numbers (tells .told) f w (reached .layer m (tells .rule) (tells .told)) k d h i, value-fits m (tells .rule) (a - (t + 1)) (b - (t + 1)) (at k d) (omega arith) (omega arith))
+            rw (sym (turned .2))
+            (omega (arith, held-told m s numbers (tells .told) (b - (t + 1)) f w (reached .layer m (tells .rule) (tells .told)) k d h j, value-fits m (tells .rule) (a - (t + 1)) (b - (t + 1)) (at k d) (omega arith) (omega arith)))
 
-    module _ (l : ℕ) (is : l ≡ counted a b t) (w′ w″ : List ℕ) (stepped : SteppedBy s numbers l w w′) (new : Noted s t w′ w″) where
-      back-layer : Each s numbers (λ m. Holds m (value m (a - t) (b - t)) w′)
+    module _ (l : ℕ) (is : l ≡ counted a b t) (w′ w″ : List ℕ) (n : ℕ) (steps : n ≡ b - (t + 1)) (stepped : SteppedBy s numbers l n w w′) (new : Noted s t (b - t) w′ w″) where
+      back-layer : Each s numbers (λ m. Holds m (b - t) (value m (a - t) (b - t)) w′)
       back-layer m ok told =
-          holds-same m (earlier m l (value m (a - (t + 1)) (b - (t + 1)))) (value m (a - t) (b - t)) w′
+          let f : Moment → ℕ = value m (a - (t + 1)) (b - (t + 1)) in
+          let more : n + 1 ≡ b - t = omega arith in
+          holds-same m (b - t) (earlier m l f) (value m (a - t) (b - t)) w′
           (λ k d. rw (is, add-one t) (sym (value-step m ok (at k d) a b t inside)))
-          (stepped .holds m ok told (value m (a - (t + 1)) (b - (t + 1))) (reached .layer m ok told))
+          (subst (λ (c : ℕ). Holds m c (earlier m l f) w′) more (stepped .holds m ok told f (subst (λ (c : ℕ). Holds m c f w) (sym steps) (reached .layer m ok told))))
 
       pub reached-back : Reached s numbers a b t w″
       reached-back = record {
-        layer = λ m ok told. holds-kept m ok _ w′ w″ (new .len) (λ x i. new .below x (omega arith)) (back-layer m ok told);
+        layer = λ m ok told. holds-kept m ok (b - t) _ w′ w″ (new .len) (λ x i. new .below x (omega arith)) (back-layer m ok told);
         heads = λ m ok told u low high. pick m ok told u low high (decLt t u);
       }
         where

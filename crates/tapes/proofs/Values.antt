@@ -15,16 +15,15 @@ use Rattle.model.specs.Run.{at, modeAt, gain}
 use Rattle.model.specs.Demand.{value}
 use Rattle.model.proofs.Bounds.{value-fits}
 use Rattle.layers.specs.declared.Shape.{Shape}
-use Rattle.layers.specs.Step.{sumBelow, tasksOf, due, gained}
+use Rattle.layers.specs.Step.{sumBelow, tasksOf, due}
 use Rattle.layers.specs.Layer.{Told}
-use Rattle.layers.proofs.Nexts.{gained-is}
+use Rattle.layers.proofs.Nexts.{gains-are}
 use Rattle.following.specs.Follow.{opens, counted}
 use Rattle.following.proofs.Ticks.{value-over, value-walk}
 
 pub gain-told : (m : Module) (s : Shape) (numbers : List ℕ) → Told m s numbers → (k : ℕ) → k < s .modes → (l d : ℕ)
     → sumBelow (due (tasksOf s numbers k) l d) (length (tasksOf s numbers k) / 4) ≡ gain m (at k d) 0 l
-unfolding gained
-gain-told m s numbers told k h l d = omega (arith, gained-is m (tasksOf s numbers k) k (told .each k h .tasks) l d 0)
+gain-told m s numbers told k h l d = gains-are m (tasksOf s numbers k) k (told .each k h .tasks) l d
 
 -- A walk along a stay of the mode k, from mode time d at tick t.
 

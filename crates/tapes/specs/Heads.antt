@@ -47,17 +47,17 @@ pub record Packed (t n : ℕ) (tops w w′ : List ℕ) : Type 0 where
   pub below : (x : ℕ) → x < pairAt t 0 → look w′ x ≡ look w x
   pub above : (x : ℕ) → pairAt t n ≤ x → look w′ x ≡ look w x
 
--- the heads at tick t are those of what the layer holds, and nothing else has changed
-pub record Noted (s : Shape) (t : ℕ) (w w′ : List ℕ) : Type 0 where
+-- the heads at tick t are those of what the layer holds after n steps, and nothing else has changed
+pub record Noted (s : Shape) (t n : ℕ) (w w′ : List ℕ) : Type 0 where
   pub len : length w′ ≡ length w
-  pub heads : (m : Module) (numbers : List ℕ) (f : State → ℕ) → ModuleRule m → Told m s numbers → Holds m f w
+  pub heads : (m : Module) (numbers : List ℕ) (f : State → ℕ) → ModuleRule m → Told m s numbers → Holds m n f w
       → ((j : ℕ) → j < length (m .modes) → f (at j 0) < 65536) → HeadsAt m f t w′
   pub below : (x : ℕ) → x < pairAt t 0 → look w′ x ≡ look w x
   pub above : (x : ℕ) → pairAt t 4 ≤ x → look w′ x ≡ look w x
 
 -- at tick t: the layer holds the largest demands in a to b from the states, and the heads from t to b stand
 pub record Reached (s : Shape) (numbers : List ℕ) (a b t : ℕ) (w : List ℕ) : Type 0 where
-  pub layer : Each s numbers (λ m. Holds m (value m (a - t) (b - t)) w)
+  pub layer : Each s numbers (λ m. Holds m (b - t) (value m (a - t) (b - t)) w)
   pub heads : Each s numbers (λ m. HeadsFrom m a b t w)
 
 -- the numbers of the working memory from the 16,384th on are as they were

@@ -330,12 +330,12 @@ fn pack(work: &mut [u32], t: usize, tops: &[u32; 8])
     }
 }
 
-// The heads of tick t are those of the layer.
-fn note_heads(work: &mut [u32], t: usize, shape: Shape)
+// The heads of tick t are those of the layer after n steps.
+fn note_heads(work: &mut [u32], t: usize, n: usize, shape: Shape)
     requires { ⌜ ((numbers : List ℕ) × Tells shape numbers) × (t ≤ 2000) × (16384 ≤ length (now work)) ⌝ }
-    ensures { λ _. ⌜ Noted shape t (now (work .entry)) (now (work .exit)) ⌝ }
+    ensures { λ _. ⌜ Noted shape t n (now (work .entry)) (now (work .exit)) ⌝ }
 {
-    let tops = layers::heads(work, shape);
+    let tops = layers::heads(work, n, shape);
     pack(work, t, &tops);
 }
 
@@ -347,7 +347,7 @@ fn begin_at(work: &mut [u32], a: usize, b: usize, shape: Shape, numbers: &[u16])
     let n = shape.modes;
     let periods = shape.periods;
     layers::clear(work, layers::states(periods, n));
-    note_heads(work, b, shape);
+    note_heads(work, b, 0, shape);
 }
 
 // One tick back, to tick t.
@@ -355,8 +355,8 @@ fn back_to(work: &mut [u32], a: usize, b: usize, t: usize, shape: Shape, numbers
     requires { ⌜ (Tells shape (now numbers)) × (t < b) × (b ≤ 2000) × (16384 ≤ length (now work)) × (Reached shape (now numbers) a b (t + 1) (now work)) ⌝ }
     ensures { λ _. ⌜ (Reached shape (now (numbers .entry)) a b t (now (work .exit))) × (Kept (now (work .entry)) (now (work .exit))) ⌝ }
 {
-    layers::advance_by(work, counted_at(a, b, t), shape, numbers);
-    note_heads(work, t, shape);
+    layers::advance_by(work, counted_at(a, b, t), b - t - 1, shape, numbers);
+    note_heads(work, t, b - t, shape);
 }
 
 // The heads of all ticks.

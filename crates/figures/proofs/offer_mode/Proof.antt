@@ -1,7 +1,8 @@
 -- `offer_mode` offers for the tasks of one mode what its part of the layer holds; a mode that is never begun offers nothing. Assumes nothing.
 use native.Mathlib.Omega.{arith}
 use borrow.Author.Needs.{needs}
-use Rattle.layers.specs.Step.{look}
+use Rattle.layers.specs.Step.{look, period}
+use Rattle.layers.proofs.Parts.{part-length}
 use Rattle.layers.proofs.Sums.{sum-more}
 use Rattle.figures.proofs.Offered.{mode-offers, mode-unbegun}
 use Rattle.figures.proofs.offer_mode.Statement.{statement}
@@ -68,7 +69,12 @@ part-offer-tasks-end-2 : tie.Need-part-offer-tasks-end-2
 part-offer-tasks-end-2 c = search needs
 
 offer-tasks-requires : tie.Need-offer-tasks-requires
-offer-tasks-requires c κs = search needs
+offer-tasks-requires c κs =
+    let s = c .before .before .before .before .before .before .before .before .before .before .before .before in
+    let a = s .args in
+    let ready = s .pre .2 in
+    let size = part-length (a .layer .now) (a .from) (period (a .t6) (a .k)) (s .pre .1) in
+    (ready .tasks, s .pre .3, omega (arith, size, ready .positive), s .pre .4)
 
 same-length : tie.Need-same-length
 same-length c = search needs

@@ -19,7 +19,7 @@ loop-holds : tie.Need-loop-holds Inv-loop μ-loop
 loop-holds c = (omega arith, each-start _ _)
 
 offer-task-requires : tie.Need-offer-task-requires Inv-loop μ-loop
-offer-task-requires c κs = let j = c .before .before .loop in let s = c .before .before .before .before .before .before .before in (omega arith, s .pre .0 (j .j) (omega arith), s .pre .1, raised-room (j .inv .1) (s .pre .2))
+offer-task-requires c κs = let j = c .before .before .loop in let s = c .before .before .before .before .before .before .before in (omega arith, s .pre .0 (j .j) (omega arith), s .pre .1, s .pre .2, raised-room (j .inv .1) (s .pre .3))
 
 add-j : tie.Need-add-j Inv-loop μ-loop
 add-j c = search needs

@@ -1,4 +1,5 @@
 -- `advance` steps from the layer of every module that the numbers tell to its next one. Assumes nothing.
+use native.Mathlib.Omega.{arith}
 use borrow.Author.Needs.{needs}
 use Rattle.layers.proofs.Layers.{told-room, layer-low, layer-step}
 use Rattle.layers.proofs.advance.Statement.{statement}
@@ -9,14 +10,16 @@ add-advance-by c = search needs
 
 advance-by-requires : tie.Need-advance-by-requires
 advance-by-requires c κs =
-    let y = c .before .before .before .pre .1 in
-    record {
-      owner = y .owner;
-      rule = y .rule;
-      told = y .told;
-      room = told-room _ (y .rule) _ _ (y .told) _ _ (y .layer);
-      low = layer-low _ (y .rule) _ _ (y .told) _ _ (y .layer) (c .before .before .before .pre .0);
-    }
+    let y = c .before .before .before .pre .1 in (
+      omega arith,
+      record {
+        owner = y .owner;
+        rule = y .rule;
+        told = y .told;
+        room = told-room _ (y .rule) _ _ (y .told) _ _ _ (y .layer);
+        low = layer-low _ (y .rule) _ _ (y .told) _ _ (y .layer) (c .before .before .before .pre .0);
+      },
+    )
 
 same-length : tie.Need-same-length
 same-length c = search needs

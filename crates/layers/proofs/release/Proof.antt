@@ -1,8 +1,9 @@
 -- `release` adds what one task gains. Assumes nothing.
-use Prim.Native.Nat.{_+_, _*_}
-use native.Mathlib.Omega.{arith}
-use borrow.Author.Needs.{needs}
 use Rattle.layers.proofs.Walks.{moved-as, moved-none, due-within, due-late, due-at}
+use native.Mathlib.Omega.{arith}
+use native.Mathlib.Nat.{mod-lt}
+use Prim.Native.Nat.{_+_, _*_}
+use borrow.Author.Needs.{needs}
 use Rattle.layers.proofs.release.Statement.{statement}
 use Rattle.layers.proofs.release.Tie as tie
 
@@ -21,15 +22,6 @@ shared-slice-read-window c = search needs
 cast-window : tie.Need-cast-window
 cast-window c = omega (arith, c .shared-slice-known2 .given (4 * c .before .before .before .args .i + 2))
 
-mul-offset : tie.Need-mul-offset
-mul-offset c = search needs
-
-mul-offset-2 : tie.Need-mul-offset-2
-mul-offset-2 c = search needs
-
-shared-slice-read-offset : tie.Need-shared-slice-read-offset
-shared-slice-read-offset c = search needs
-
 mul-gain : tie.Need-mul-gain
 mul-gain c = search needs
 
@@ -42,31 +34,53 @@ mul-gain-2 c = search needs
 shared-slice-read-gain : tie.Need-shared-slice-read-gain
 shared-slice-read-gain c = search needs
 
-mul-add : tie.Need-mul-add
-mul-add c = search needs
+mul-every : tie.Need-mul-every
+mul-every c = search needs
 
-add-add : tie.Need-add-add
-add-add c = search needs
+add-every : tie.Need-add-every
+add-every c = search needs
 
-mul-add-2 : tie.Need-mul-add-2
-mul-add-2 c = search needs
+mul-every-2 : tie.Need-mul-every-2
+mul-every-2 c = search needs
 
-shared-slice-read-add : tie.Need-shared-slice-read-add
-shared-slice-read-add c = search needs
+shared-slice-read-every : tie.Need-shared-slice-read-every
+shared-slice-read-every c = search needs
+
+mul-start : tie.Need-mul-start
+mul-start c = search needs
+
+mul-start-2 : tie.Need-mul-start-2
+mul-start-2 c = search needs
+
+shared-slice-read-start : tie.Need-shared-slice-read-start
+shared-slice-read-start c = search needs
+
+cast-start : tie.Need-cast-start
+cast-start c = omega (arith, c .shared-slice-known5 .given (4 * c .before .before .before .before .before .before .before .args .i))
+
+add-start : tie.Need-add-start
+add-start c = search needs
+
+add-start-2 : tie.Need-add-start-2
+add-start-2 c = omega (arith, c .shared-slice-known5 .given (4 * c .before .before .before .before .before .before .before .args .i))
+
+cast-start-2 : tie.Need-cast-start-2
+cast-start-2 c = omega (arith, c .shared-slice-known5 .given (4 * c .before .before .before .before .before .before .before .args .i + 3))
+
+rem-start : tie.Need-rem-start
+rem-start c = search needs
 
 add-requires : tie.Need-add-requires
-add-requires c κs =
-    let s = c .before .before .before .before .before .before .before .before in
-    (search needs, λ d h e. omega (arith, due-at (s .args .tasks .now) (s .args .l) (s .args .i) d (omega arith) e, s .pre .1 d h))
+add-requires c κs = (mod-lt _ (omega arith), λ x h e. omega (arith, due-at (c .before .before .before .before .before .before .before .before .args .tasks .now) (c .before .before .before .before .before .before .before .before .args .l) (c .before .before .before .before .before .before .before .before .args .n) (c .before .before .before .before .before .before .before .before .args .i) x (omega arith) e, c .before .before .before .before .before .before .before .before .pre .1 x h))
 
 same-length : tie.Need-same-length
 same-length c = search needs
 
 returns : tie.Need-returns
-returns c = moved-as (c .before .before .add .ensures) (due-within _ _ _ (omega arith))
+returns c = moved-as (c .before .before .add .ensures) (due-within _ _ _ _ (omega arith))
 
 returns-2 : tie.Need-returns-2
-returns-2 c = moved-none _ _ (due-late _ _ _ (omega arith))
+returns-2 c = moved-none _ _ (due-late _ _ _ _ (omega arith))
 
 pub release-spec : {M : Type 1} → statement M
 release-spec =
@@ -77,17 +91,22 @@ release-spec =
     mul-window-2
     shared-slice-read-window
     cast-window
-    mul-offset
-    mul-offset-2
-    shared-slice-read-offset
     mul-gain
     add-gain
     mul-gain-2
     shared-slice-read-gain
-    mul-add
-    add-add
-    mul-add-2
-    shared-slice-read-add
+    mul-every
+    add-every
+    mul-every-2
+    shared-slice-read-every
+    mul-start
+    mul-start-2
+    shared-slice-read-start
+    cast-start
+    add-start
+    add-start-2
+    cast-start-2
+    rem-start
     add-requires
     same-length
     returns

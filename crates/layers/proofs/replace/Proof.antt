@@ -4,8 +4,8 @@ use Prim.Native.Nat.{ℕ, _+_, _<_, _≤_, _^_}
 use native.Mathlib.Omega.{arith}
 use lib.ListN.{length}
 use borrow.Author.Needs.{needs}
-use Rattle.layers.specs.Step.{look, period, tasksOf, next, stepped}
-use Rattle.layers.proofs.Parts.{part-length, part-next, replaced}
+use Rattle.layers.specs.Step.{look, period, tasksOf, stepped}
+use Rattle.layers.proofs.Parts.{part-length, part-look, replaced}
 use Rattle.layers.proofs.Sums.{sum-more}
 use Rattle.layers.proofs.replace.Statement.{statement}
 use Rattle.layers.proofs.replace.Tie as tie
@@ -71,23 +71,23 @@ renew-requires : tie.Need-renew-requires
 renew-requires c κs =
     let s = c .before .before .before .before .before .before .before in
     let a = s .args in
-    let sh = a .t3 in
-    let ready = s .pre .0 .4 in
+    let sh = a .t4 in
+    let ready = s .pre .0 .5 in
     let p = period sh (a .k) in
     let w = a .layer .now in
     let fits : a .from + p ≤ length w = omega arith in
     let size = part-length w (a .from) p fits in (
-      (omega (arith, size, ready .positive), omega arith, omega arith, ready .tasks, ready .switches),
-      λ d h. subst (λ (x : ℕ). stepped sh (a .k) (tasksOf sh (a .numbers .now) (a .k)) (a .heads .now) (a .l) d x < 2 ^ 32)
-          (sym (part-next w (a .from) p fits d (omega (arith, size)) ∙ ap (λ (x : ℕ). look w (x + next p d)) (s .pre .0 .0)))
-          (s .pre .1 d (omega (arith, size))),
+      (s .pre .0 .0, omega arith, omega arith, ready .tasks, ready .switches),
+      λ x h. subst (λ (v : ℕ). stepped sh (a .k) (tasksOf sh (a .numbers .now) (a .k)) (a .heads .now) (a .l) (a .n) x v < 2 ^ 32)
+          (sym (part-look w (a .from) p fits x (omega (arith, size)) ∙ ap (λ (y : ℕ). look w (y + x)) (s .pre .0 .1)))
+          (s .pre .1 x (omega (arith, size))),
     )
 
 same-length : tie.Need-same-length
 same-length c = search needs
 
 returns : tie.Need-returns
-returns c = let s = c .before .before .before .before .before .before .before .before .before .before in (omega (arith, sum-more (look (s .args .t3 .periods)) (s .args .k)), replaced _ _ _ _ _ _ _ _ (s .pre .0 .0) (s .pre .0 .1) (c .before .before .renew .ensures))
+returns c = let s = c .before .before .before .before .before .before .before .before .before .before in (omega (arith, sum-more (look (s .args .t4 .periods)) (s .args .k)), replaced _ _ _ _ _ _ _ _ _ (s .pre .0 .1) (s .pre .0 .2) (c .before .before .renew .ensures))
 
 pub replace-spec : {M : Type 1} → statement M
 replace-spec =

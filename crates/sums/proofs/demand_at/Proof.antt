@@ -1,4 +1,6 @@
 -- `demand_at` reads the number at the state's place in the layer. Assumes nothing.
+use Prim.Native.Nat.{_+_}
+use native.Mathlib.Nat.{mod-lt}
 use native.Mathlib.Omega.{arith}
 use borrow.Author.Needs.{needs}
 use Rattle.layers.proofs.Layers.{value-told}
@@ -10,13 +12,13 @@ run-to-requires : tie.Need-run-to-requires
 run-to-requires c κs = search needs
 
 place-requires : tie.Need-place-requires
-place-requires c κs = let p = c .before .before .before .before .before .before .before .pre in (omega (arith, told-modes _ _ (p .4)), omega (arith, told-place _ _ (p .4) _ _ (p .2) (p .3)))
+place-requires c κs = let p = c .before .before .before .before .before .before .before .pre in (omega (arith, told-modes _ _ (p .4)), p .3, omega (arith, told-place _ _ (p .4) _ _ (p .2) (p .3)), p .0)
 
 mul-result : tie.Need-mul-result
-mul-result c = let p = c .before .before .before .before .before .before .before .before .pre in omega (arith, told-place _ _ (p .4) _ _ (p .2) (p .3))
+mul-result c = let s = c .before .before .before .before .before .before .before .before in let p = s .pre in omega (arith, told-place _ _ (p .4) _ _ (p .2) (mod-lt (s .args .d + s .args .l) (omega arith)))
 
 slice-read-result : tie.Need-slice-read-result
-slice-read-result c = let p = c .before .before .before .before .before .before .before .before .before .pre in omega (arith, told-place _ _ (p .4) _ _ (p .2) (p .3))
+slice-read-result c = let s = c .before .before .before .before .before .before .before .before .before in let p = s .pre in omega (arith, told-place _ _ (p .4) _ _ (p .2) (mod-lt (s .args .d + s .args .l) (omega arith)))
 
 same-length : tie.Need-same-length
 same-length c = search needs

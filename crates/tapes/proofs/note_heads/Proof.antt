@@ -22,7 +22,7 @@ same-length c = search needs
 returns : tie.Need-returns
 returns c =
     let t = c .before .before .before .before .before .before .before .before .pre .0 .1 in
-    noted _ _ _ _ _ (told-ready (t .owner) (t .rule) _ _ (t .told) .few) (c .before .before .before .before .before .heads .ensures) (c .before .before .pack .ensures)
+    noted _ _ _ _ _ _ (told-ready (t .owner) (t .rule) _ _ (t .told) .few) (c .before .before .before .before .before .heads .ensures) (c .before .before .pack .ensures)
 
 pub note-heads-spec : {M : Type 1} → statement M
 note-heads-spec = tie.close (tie.spec heads-requires pack-requires same-length returns)
