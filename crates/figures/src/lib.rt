@@ -18,14 +18,14 @@ fn smaller(a: usize, b: usize) -> usize
 }
 
 // a less b, and 0 where b is more.
-fn less(a: usize, b: usize) -> usize
+pub fn less(a: usize, b: usize) -> usize
     ensures { λ r. ⌜ r ≡ a - b ⌝ }
 {
     if a < b { 0 } else { a - b }
 }
 
 // How many ticks from t on are known to bear no mark of mode k: 0 exactly where t bears one.
-fn quiet(bits: &[u32], k: usize, t: usize) -> usize
+pub fn quiet(bits: &[u32], k: usize, t: usize) -> usize
     requires { ⌜ (k < 8) × (t < 2016) × (markNumbers ≤ length (now bits)) ⌝ }
     ensures { λ r. ⌜ Quiet (now (bits .entry)) k t r ⌝ }
 {

@@ -11,7 +11,7 @@ ghost use Rattle.tiles.specs.Tiles.{Progress, Begun, Progressed, RowFits
 use layers::Shape;
 
 // The module's marks up to the last end, and its layer for no tick.
-fn begin(work: &mut [u32], last: usize, shape: Shape)
+pub fn begin(work: &mut [u32], last: usize, shape: Shape)
     requires { ⌜ (last ≤ 2000) × (16384 ≤ length (now work)) × (Walkable shape) × (total (shape .periods) (shape .modes) ≤ 8192) ⌝ }
     ensures { λ _. ⌜ Begun shape last (now (work .entry)) (now (work .exit)) ⌝ }
 {

@@ -1,0 +1,5 @@
+pub mod Tops
+pub mod Topping
+pub mod Bounding
+pub mod Adding
+pub mod Summing
