@@ -12,7 +12,7 @@ use Rattle.layers.specs.Step.{look}
 use Rattle.cells.specs.declared.Found.{Found}
 use Rattle.cells.specs.declared.Found.the-variants.{Clear, At}
 
--- The working memory of the search: the quick sum of the length L at L, up to 2,000; behind them one module's layer, its marks, and the cells.
+-- The working memory of the search: a bound on the sums of the length L at L, up to 2,000; behind them one module's layer, its marks, and the cells.
 
 abbrev pub layerFrom : ℕ
 layerFrom = 2001
@@ -23,9 +23,14 @@ marksFrom = 10193
 abbrev pub cellsFrom : ℕ
 cellsFrom = 10697
 
--- a length is in question where its quick sum exceeds it
+-- a length is in question where its bound exceeds it
 abbrev pub inQuestion : List ℕ → ℕ → Bool
 inQuestion w L = ltb L (look w L)
+
+-- none of the lengths up to n that exceed r is in question
+pub record Longest (w : List ℕ) (n r : ℕ) : Type 0 where
+  pub within : r ≤ n
+  pub longer : (L : ℕ) → r < L → L ≤ n → inQuestion w L ≡ false
 
 -- how many of the lengths from 1 to n are in question
 unfoldable pub rows : List ℕ → ℕ → ℕ

@@ -4,7 +4,7 @@ ghost use Prim.Native.Nat.{ℕ, _+_, _≤_, _<_};
 ghost use lib.ListN.{length};
 ghost use Rattle.model.specs.Lists.{when};
 ghost use Rattle.model.specs.Verdict.{exactAt, exactFrom};
-ghost use Rattle.cells.specs.Cells.{inQuestion, rows, Tile, Holding, CellsCleared, foundOf};
+ghost use Rattle.cells.specs.Cells.{inQuestion, rows, Longest, Tile, Holding, CellsCleared, foundOf};
 
 // Where the cells begin in the working memory.
 const CELLS_FROM: usize = 10697;
@@ -15,6 +15,21 @@ const CELLS: usize = 5687;
 pub enum Found {
     Clear,
     At { start: u16, end: u16, sum: u32 },
+}
+
+// The longest length in question from 1 to n, 0 where there is none.
+pub fn longest(work: &[u32], n: usize) -> usize
+    requires { ⌜ (n ≤ 2000) × (n < length (now work)) ⌝ }
+    ensures { λ r. ⌜ Longest (now (work .entry)) n r ⌝ }
+{
+    let mut l = n;
+    while 0 < l {
+        if (l as u32) < work[l] {
+            return l;
+        }
+        l -= 1;
+    }
+    0
 }
 
 // How many rows the length l has: 1 where it is in question.

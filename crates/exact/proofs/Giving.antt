@@ -8,15 +8,10 @@ use native.Mathlib.Omega.{arith}
 use lib.Dec.{leb}
 use lib.ListN.{length}
 use borrow.Author.Tests.{leb-true}
-use Rattle.model.specs.Sheet.{Sheet}
 use Rattle.model.specs.Limits.{maxHorizon, workNumbers}
 use Rattle.model.specs.Verdict as Verdict
 use Rattle.model.specs.Tape.{tapes}
-use Rattle.model.specs.WellFormed.{WellFormed}
-use Rattle.model.proofs.Verdicts.{quick-is, exact-is, exact-unique}
-use Rattle.entries.proofs.Bounds.{quick-clear}
-use Rattle.layers.specs.Step.{look}
-use Rattle.quick.proofs.Giving.{sums-quick}
+use Rattle.model.proofs.Verdicts.{exact-is}
 use Rattle.format.specs.Judgement.{sheetIn}
 use Rattle.format.proofs.RoundTrip.{accepted-wellFormed}
 use Rattle.judge.proofs.JudgedLaws.{AcceptedWith}
@@ -82,10 +77,3 @@ module _ (bytes w w′ t : List ℕ) {modules horizon : ℕ} (met : Sound (exact
 
 pub exact-is-refused : (bytes : List ℕ) (work tape : ℕ) {n p : ℕ} → Asks (exactTerms work tape) bytes (asked.Refused n p) → ExactAnswer bytes work tape (refused n p)
 exact-is-refused bytes work tape asks = subst (ExactAnswer bytes work tape) (asks witnessed) (exact-answer bytes work tape)
-
--- Where no quick sum exceeds its length no interval is over.
-pub none-in-question : (s : Sheet) → WellFormed s → (n : ℕ) (w : List ℕ) → n ≡ s .horizon → ((L : ℕ) → 1 ≤ L → L ≤ s .horizon → look w L ≡ Verdict.quickSum s L)
-    → Verdict.Quick.clear ≡ Verdict.quickFrom (look w) n 1 → Verdict.Exact.clear ≡ Verdict.exact s
-none-in-question s ok n w e sums none =
-    let quick-clear-is : Verdict.Quick.clear ≡ Verdict.quick s = none ∙ sums-quick s n w e sums in
-    exact-unique s ok Verdict.Exact.clear (Verdict.exact s) (quick-clear s ok (rw (sym quick-clear-is) at (quick-is s ok))) (exact-is s ok)

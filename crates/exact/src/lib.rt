@@ -5,19 +5,12 @@ ghost use Prim.Native.Nat.{_*_, _≤_};
 ghost use lib.Dec.{leb};
 ghost use lib.ListN.{length as count};
 ghost use Rattle.model.specs.Limits.{workNumbers};
-ghost use Rattle.model.specs.Verdict.{exact};
-ghost use Rattle.format.specs.Judgement.{sheetIn, Accepted};
 ghost use Rattle.query.specs.Query.{exactTerms};
-ghost use Rattle.query.specs.Memory.{Stays};
-ghost use Rattle.table.specs.Rows.{RowsOf};
-ghost use Rattle.cells.specs.Cells.{foundOf};
-ghost use Rattle.search.specs.Search.{QuickSums};
 ghost use Rattle.quick.specs.Asking.{Sound};
 ghost use Rattle.exact.specs.Exact.{ExactTested};
 ghost use Rattle.exact.specs.Asking.{Asks, sound};
 use cells::Found;
 use judge::Judged;
-use sums::Over;
 
 /// What the exact test says: the refusal's number and place, clear, or over.
 pub enum Exact {
@@ -81,29 +74,6 @@ fn exact_asked(sheet: &[u8], work: usize, tape: usize) -> Asked
     }
 }
 
-// The first interval that is over, where the quick sums stand in the working memory: none where no length is in question.
-fn first_interval(
-    sheet: &[u8],
-    work: &mut [u32],
-    modules: usize,
-    horizon: usize,
-    periods: [[u16; 8]; 8],
-    every: [[u16; 64]; 8],
-    listed: [[bool; 64]; 8],
-) -> Found
-    requires { ⌜ Accepted (now sheet) ⌝ }
-    requires { ⌜ modules ≡ count (sheetIn (now sheet) .modules) ⌝ }
-    requires { ⌜ horizon ≡ sheetIn (now sheet) .horizon ⌝ }
-    requires { ⌜ RowsOf (sheetIn (now sheet)) periods every listed ⌝ }
-    requires { ⌜ (workNumbers ≤ count (now work)) × (QuickSums (sheetIn (now sheet)) (now work)) ⌝ }
-    ensures { λ r. ⌜ (foundOf r ≡ exact (sheetIn (now (sheet .entry)))) × (Stays workNumbers (now (work .entry)) (now (work .exit))) ⌝ }
-{
-    if let Over::Clear = sums::first_over(work, horizon) {
-        return Found::Clear;
-    }
-    search::search(sheet, work, modules, horizon, periods, every, listed)
-}
-
 // The exact test, where nothing refuses it.
 fn exact_given(
     sheet: &[u8],
@@ -118,8 +88,7 @@ fn exact_given(
     let periods = table::mode_periods(sheet);
     let every = table::switch_periods(sheet);
     let listed = table::switch_listed(sheet);
-    quick::quick_sums(sheet, work, modules, horizon, periods, every, listed);
-    let found = first_interval(sheet, work, modules, horizon, periods, every, listed);
+    let found = search::search(sheet, work, modules, horizon, periods, every, listed);
     match found {
         Found::Clear => Exact::Clear,
         Found::At { start, end, sum } => {

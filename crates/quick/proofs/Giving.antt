@@ -26,7 +26,7 @@ quickFrom-same : (f g : ℕ → ℕ) (n L : ℕ) → ((K : ℕ) → L ≤ K → 
 quickFrom-same f g zero L e = refl
 quickFrom-same f g (suc n) L e = rw (e L (omega arith) (omega arith), quickFrom-same f g n (suc L) (λ K h l. e K (omega arith) (omega arith)))
 
-pub sums-quick : (s : Sheet) (n : ℕ) (w : List ℕ) → n ≡ s .horizon → ((L : ℕ) → 1 ≤ L → L ≤ s .horizon → look w L ≡ quickSum s L) → quickFrom (look w) n 1 ≡ quick s
+sums-quick : (s : Sheet) (n : ℕ) (w : List ℕ) → n ≡ s .horizon → ((L : ℕ) → 1 ≤ L → L ≤ s .horizon → look w L ≡ quickSum s L) → quickFrom (look w) n 1 ≡ quick s
 unfolding quick
 sums-quick s n w e sums = rw e (quickFrom-same (look w) (quickSum s) (s .horizon) 1 (λ K h l. sums K h (omega arith)))
 

@@ -1,5 +1,5 @@
 -- The figures of one length are added to its row; and one length after another, those of the module to all rows. Assumes nothing.
-use mathlib.Core.Path.{_≡_, refl, sym, ap, _∙_, subst}
+use mathlib.Core.Path.{_≡_, refl, sym, ap, _∙_}
 use mathlib.Core.Bool.{true, false}
 use mathlib.Core.List.{List}
 use Prim.Native.Nat.{ℕ, pred, _+_, _-_, _*_, _^_, _≤_, _<_}
@@ -18,7 +18,7 @@ use Rattle.layers.proofs.Parts.{part-length}
 use Rattle.figures.specs.Figures.{Added}
 use Rattle.figures.proofs.Offered.{not-both}
 use Rattle.figures.proofs.Tiles.{figures-bound}
-use Rattle.cells.specs.Cells.{layerFrom, cellsFrom, inQuestion, rows, cellAt, Tile}
+use Rattle.cells.specs.Cells.{layerFrom, cellsFrom, inQuestion, Longest, rows, cellAt, Tile}
 use Rattle.tiles.specs.Tiles.{Within, Progressed, RowFits, RowAdded, CellsFit, ModuleAdded}
 use Rattle.cells.proofs.Rows.{rows-more, rows-grow}
 use Rattle.tiles.proofs.Rows.{question-same, rows-same, cell-same, cell-before}
@@ -69,8 +69,16 @@ module _ (s : Shape) (numbers : List ℕ) (lo width : ℕ) (w : List ℕ) where
   pub module-start : ModuleAdded s numbers lo width 0 w w
   module-start = record { cells = λ m ok told L i h l. absurd (omega arith); within = within-none _ _ w }
 
-  pub module-at : (k n : ℕ) (w′ : List ℕ) → k ≡ n → ModuleAdded s numbers lo width k w w′ → ModuleAdded s numbers lo width n w w′
-  module-at k n w′ e done = subst (λ (x : ℕ). ModuleAdded s numbers lo width x w w′) e done
+  -- the lengths that are not in question have no cells
+  pub module-rest : (k n : ℕ) (w′ : List ℕ) → Longest w n k → ModuleAdded s numbers lo width k w w′ → ModuleAdded s numbers lo width n w w′
+  module-rest k n w′ p done = record {
+    cells = λ m ok told L i h l q j. pick L l q (decLe L k) (λ a. done .cells m ok told L i h a q j);
+    within = within-wider (done .within) _ _ (omega arith) (omega (arith, mul-le-mul-right width (rows-grow w k n (p .within))));
+  }
+    where
+      pick : {C : Type 0} (L : ℕ) → L ≤ n → inQuestion w L ≡ true → Dec (L ≤ k) → (L ≤ k → C) → C
+      pick L l q (yes a) on = on a
+      pick L l q (no a) on = absurd (not-both q (p .longer L (omega arith) l))
 
   -- with the figures for n + 1 ticks
   module _ (n : ℕ) (w₁ w′ fig₁ fig : List ℕ) (before : ModuleAdded s numbers lo width n w w₁) (on : Progressed s numbers lo (n + 1) w₁ w′ fig₁ fig)

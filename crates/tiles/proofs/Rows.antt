@@ -1,5 +1,5 @@
 -- The rows of the lengths in question: the sums alone decide them, and they stand one behind another. Assumes nothing.
-use mathlib.Core.Path.{_≡_, refl, ap}
+use mathlib.Core.Path.{_≡_, refl, ap, _∙_}
 use mathlib.Core.Bool.{true}
 use mathlib.Core.List.{List}
 use Prim.Native.Nat.{ℕ, zero, suc, pred, _+_, _*_, _≤_, _<_}
@@ -8,13 +8,16 @@ use native.Mathlib.Omega.{arith}
 use lib.Dec.{ltb}
 use lib.ListN.{length}
 use Rattle.layers.specs.Step.{look}
-use Rattle.cells.specs.Cells.{cellsFrom, inQuestion, rows, cellAt, Tile}
+use Rattle.cells.specs.Cells.{cellsFrom, inQuestion, Longest, rows, cellAt, Tile}
 use Rattle.cells.proofs.Rows.{rows-before}
 
 -- two memories with the same sums
 module _ (w w′ : List ℕ) (same : (x : ℕ) → x ≤ 2000 → look w′ x ≡ look w x) where
   pub question-same : (L : ℕ) → L ≤ 2000 → inQuestion w′ L ≡ inQuestion w L
   question-same L h = ap (ltb L) (same L h)
+
+  pub longest-same : (n r : ℕ) → n ≤ 2000 → Longest w n r → Longest w′ n r
+  longest-same n r most p = record { within = p .within; longer = λ L h l. question-same L (omega arith) ∙ p .longer L h l }
 
   pub rows-same : (n : ℕ) → n ≤ 2000 → rows w′ n ≡ rows w n
   unfolding rows

@@ -6,7 +6,7 @@ ghost use lib.ListN.{length};
 ghost use Rattle.layers.specs.Step.{total};
 ghost use Rattle.layers.specs.Layer.{Tells, Each};
 ghost use Rattle.marks.specs.Marking.{Walkable};
-ghost use Rattle.cells.specs.Cells.{inQuestion, Tile};
+ghost use Rattle.cells.specs.Cells.{inQuestion, Longest, Tile};
 ghost use Rattle.tiles.specs.Tiles.{Progress, Begun, Progressed, RowFits, RowAdded, CellsFit, ModuleAdded};
 use layers::Shape;
 
@@ -59,27 +59,40 @@ fn add_row(work: &mut [u32], fig: &[u32], l: usize, row: usize) -> usize
     row + 1
 }
 
-// All lengths up to the last end, from what the module has come to with no tick.
-fn add_lengths(work: &mut [u32], fig: &mut [u32], lo: usize, shape: Shape, numbers: &[u16])
-    requires { ⌜ (Tile (now work) lo (length (now fig))) × (CellsFit (now work) lo (length (now fig))) × (Tells shape (now numbers)) × (Each shape (now numbers) (λ m. Progress m lo 0 (now work) (now fig))) ⌝ }
+// All lengths up to stop, the longest in question, from what the module has come to with no tick.
+fn add_lengths(
+    work: &mut [u32],
+    fig: &mut [u32],
+    lo: usize,
+    stop: usize,
+    shape: Shape,
+    numbers: &[u16],
+)
+    requires { ⌜ (Tile (now work) lo (length (now fig))) × (CellsFit (now work) lo (length (now fig))) × (Tells shape (now numbers)) × (Each shape (now numbers) (λ m. Progress m lo 0 (now work) (now fig))) × (Longest (now work) (pred (lo + length (now fig))) stop) ⌝ }
     ensures { λ _. ⌜ ModuleAdded shape (now (numbers .entry)) lo (length (now (fig .entry))) (pred (lo + length (now (fig .entry)))) (now (work .entry)) (now (work .exit)) ⌝ }
 {
-    let last = lo + fig.len() - 1;
     let mut row = 0;
     let mut l = 0;
-    while l < last {
+    while l < stop {
         next_figures(work, fig, lo, l, shape, numbers);
         row = add_row(work, fig, l + 1, row);
         l += 1;
     }
 }
 
-// One module's figures are added to the cells of the tile of the ends from lo on.
-pub fn add_module(work: &mut [u32], lo: usize, width: usize, shape: Shape, numbers: &[u16])
-    requires { ⌜ (Tile (now work) lo width) × (CellsFit (now work) lo width) × (Tells shape (now numbers)) ⌝ }
+// One module's figures are added to the cells of the tile of the ends from lo on, where no length above stop is in question.
+pub fn add_module(
+    work: &mut [u32],
+    lo: usize,
+    width: usize,
+    stop: usize,
+    shape: Shape,
+    numbers: &[u16],
+)
+    requires { ⌜ (Tile (now work) lo width) × (CellsFit (now work) lo width) × (Tells shape (now numbers)) × (Longest (now work) (pred (lo + width)) stop) ⌝ }
     ensures { λ _. ⌜ ModuleAdded shape (now (numbers .entry)) lo width (pred (lo + width)) (now (work .entry)) (now (work .exit)) ⌝ }
 {
     begin(work, lo + width - 1, shape);
     let mut fig = [0u32; 512];
-    add_lengths(work, &mut fig[0..width], lo, shape, numbers);
+    add_lengths(work, &mut fig[0..width], lo, stop, shape, numbers);
 }

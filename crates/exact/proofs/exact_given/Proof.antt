@@ -1,13 +1,13 @@
--- The quick sums, the search in them, and where an interval is over its tapes: that is the exact test's answer. Assumes nothing.
-use Rattle.exact.proofs.Giving.{work-room, over-within, clear-is, over-is}
-use Rattle.query.proofs.Meeting.{stays-by, stays-more}
-use Rattle.cells.specs.Cells.{foundOf}
-use Rattle.model.specs.Limits.{workNumbers}
-use lib.ListN.{length}
+-- The search, and where an interval is over its tapes: that is the exact test's answer. Assumes nothing.
 use mathlib.Core.Path.{sym, _∙_, ap}
-use denote.Ref.{now}
 use native.Mathlib.Omega.{arith}
+use lib.ListN.{length}
+use denote.Ref.{now}
 use borrow.Author.Needs.{needs}
+use Rattle.model.specs.Limits.{workNumbers}
+use Rattle.cells.specs.Cells.{foundOf}
+use Rattle.query.proofs.Meeting.{stays-by, stays-more}
+use Rattle.exact.proofs.Giving.{work-room, over-within, clear-is, over-is}
 use Rattle.exact.proofs.exact_given.Statement.{statement}
 use Rattle.exact.proofs.exact_given.Tie as tie
 
@@ -20,18 +20,11 @@ switch-periods-requires c κs = search needs
 switch-listed-requires : tie.Need-switch-listed-requires
 switch-listed-requires c κs = search needs
 
-quick-sums-requires : tie.Need-quick-sums-requires
-quick-sums-requires c κs =
+search-requires : tie.Need-search-requires
+search-requires c κs =
     let a = c .before .before .before .before .before .before .before in
     let p = a .pre in
     (p .met .accepted, (p .modules-are, (p .horizon-is, ((c .before .before .before .mode-periods .ensures, c .before .before .switch-periods .ensures, c .before .switch-listed .ensures), work-room (now (a .args .sheet)) (length (now (a .args .work))) (length (now (a .args .tape))) p))))
-
-first-interval-requires : tie.Need-first-interval-requires
-first-interval-requires c κs =
-    let a = c .before .before .before .before .before .before .before .before .before .before .before in
-    let p = a .pre in
-    let done = c .before .before .before .quick-sums .ensures in
-    (p .met .accepted, (p .modules-are, (p .horizon-is, ((c .before .before .before .before .before .before .before .mode-periods .ensures, c .before .before .before .before .before .before .switch-periods .ensures, c .before .before .before .before .before .switch-listed .ensures), (omega (arith, work-room (now (a .args .sheet)) (length (now (a .args .work))) (length (now (a .args .tape))) p, done .len), done .sums)))))
 
 enum-told : tie.Need-enum-told
 enum-told c = search needs
@@ -47,20 +40,20 @@ cast-b c = search needs
 
 write-tapes-requires : tie.Need-write-tapes-requires
 write-tapes-requires c κs =
-    let a = c .before .before .before .before .before .before .before .before .before .before .before .before .before .before .before .before .before .before .before in
+    let a = c .before .before .before .before .before .before .before .before .before .before .before .before .before .before .before in
     let p = a .pre in
-    let room = over-within (now (a .args .sheet)) (length (now (a .args .work))) (length (now (a .args .tape))) p (ap foundOf (sym (c .before .before .before .found .given .1)) ∙ c .before .before .before .before .before .before .before .first-interval .ensures .0) in
-    (p .met .accepted, (p .modules-are, ((c .before .before .before .before .before .before .before .before .before .before .before .before .before .before .before .mode-periods .ensures, c .before .before .before .before .before .before .before .before .before .before .before .before .before .before .switch-periods .ensures, c .before .before .before .before .before .before .before .before .before .before .before .before .before .switch-listed .ensures), (omega (arith, work-room (now (a .args .sheet)) (length (now (a .args .work))) (length (now (a .args .tape))) p, c .before .before .before .before .before .before .before .before .before .before .before .quick-sums .ensures .len, c .before .before .before .before .before .before .before .first-interval .ensures .1 .len), room .0, room .1))))
+    let found = c .before .before .before .before .before .before .before .search .ensures in
+    let room = over-within (now (a .args .sheet)) (length (now (a .args .work))) (length (now (a .args .tape))) p (ap foundOf (sym (c .before .before .before .found .given .1)) ∙ found .found) in
+    (p .met .accepted, (p .modules-are, ((c .before .before .before .before .before .before .before .before .before .before .before .mode-periods .ensures, c .before .before .before .before .before .before .before .before .before .before .switch-periods .ensures, c .before .before .before .before .before .before .before .before .before .switch-listed .ensures), (omega (arith, work-room (now (a .args .sheet)) (length (now (a .args .work))) (length (now (a .args .tape))) p, found .kept .len), room .0, room .1))))
 
 same-length : tie.Need-same-length
 same-length c = search needs
 
 returns : tie.Need-returns
 returns c =
-    let a = c .before .before .before .before .before .before .before .before .before .before .before .before .before .before .before .before in
-    let p = a .pre in
-    let sums = c .before .before .before .before .before .before .before .before .quick-sums .ensures in
-    clear-is (now (a .args .sheet)) (now (a .args .work)) _ (now (a .args .tape)) p (stays-more (stays-by workNumbers _ _ (sums .len) (sums .above)) (c .before .before .before .before .first-interval .ensures .1)) (ap foundOf (sym (c .enum-told .given .1)) ∙ c .before .before .before .before .first-interval .ensures .0)
+    let a = c .before .before .before .before .before .before .before .before .before .before .before .before in
+    let found = c .before .before .before .before .search .ensures in
+    clear-is (now (a .args .sheet)) (now (a .args .work)) _ (now (a .args .tape)) (a .pre) (stays-by workNumbers _ _ (found .kept .len) (found .kept .above)) (ap foundOf (sym (c .enum-told .given .1)) ∙ found .found)
 
 same-length-2 : tie.Need-same-length-2
 same-length-2 c = search needs
@@ -70,10 +63,10 @@ same-length-3 c = search needs
 
 returns-2 : tie.Need-returns-2
 returns-2 c =
-    let a = c .before .before .before .before .before .before .before .before .before .before .before .before .before .before .before .before .before .before .before .before .before .before .before .before in
-    let p = a .pre in
-    let sums = c .before .before .before .before .before .before .before .before .before .before .before .before .before .before .before .before .quick-sums .ensures in
-    over-is (now (a .args .sheet)) (now (a .args .work)) _ (now (a .args .tape)) p (stays-more (stays-more (stays-by workNumbers _ _ (sums .len) (sums .above)) (c .before .before .before .before .before .before .before .before .before .before .before .before .first-interval .ensures .1)) (c .before .before .before .before .write-tapes .ensures .1)) _ _ _ (ap foundOf (sym (c .before .before .before .before .before .before .before .before .found .given .1)) ∙ c .before .before .before .before .before .before .before .before .before .before .before .before .first-interval .ensures .0) (c .before .before .before .before .write-tapes .ensures .0)
+    let a = c .before .before .before .before .before .before .before .before .before .before .before .before .before .before .before .before .before .before .before .before in
+    let found = c .before .before .before .before .before .before .before .before .before .before .before .before .search .ensures in
+    let stays = stays-more (stays-by workNumbers _ _ (found .kept .len) (found .kept .above)) (c .before .before .before .before .write-tapes .ensures .1) in
+    over-is (now (a .args .sheet)) (now (a .args .work)) _ (now (a .args .tape)) (a .pre) stays _ _ _ (ap foundOf (sym (c .before .before .before .before .before .before .before .before .found .given .1)) ∙ found .found) (c .before .before .before .before .write-tapes .ensures .0)
 
 pub exact-given-spec : {M : Type 1} → statement M
 exact-given-spec =
@@ -82,8 +75,7 @@ exact-given-spec =
     mode-periods-requires
     switch-periods-requires
     switch-listed-requires
-    quick-sums-requires
-    first-interval-requires
+    search-requires
     enum-told
     enum-known-found
     cast-a

@@ -26,7 +26,7 @@ add-module-requires c κs =
     let a = c .before .before .before .before .before .before .before in
     let p = a .pre .1 .1 .1 in
     let fit = cells-fit (sheetIn (now (a .args .sheet))) _ _ _ (a .pre .1 .0) (sound a) _ (p .0) (p .1) in
-    (p .1, fit, tells (now (a .args .sheet)) (a .pre .0) (a .args .k) (a .pre .1 .0) (c .before .before .before .before .engine-of .ensures))
+    (p .1, fit, tells (now (a .args .sheet)) (a .pre .0) (a .args .k) (a .pre .1 .0) (c .before .before .before .before .engine-of .ensures), p .2)
 
 same-length : tie.Need-same-length
 same-length c = search needs

@@ -3,9 +3,8 @@ use denote.Ref.{now}
 use borrow.Author.Needs.{needs}
 use Rattle.model.specs.Verdict.{exactSum}
 use Rattle.format.specs.Judgement.{sheetIn}
-use Rattle.format.proofs.RoundTrip.{accepted-wellFormed}
-use Rattle.search.proofs.Keeping.{tile-kept, sums-kept}
 use Rattle.search.proofs.Searching.{holding}
+use Rattle.search.proofs.Keeping.{tile-kept, passed-kept}
 use Rattle.search.proofs.search_tile.Statement.{statement}
 use Rattle.search.proofs.search_tile.Tie as tie
 
@@ -22,12 +21,11 @@ returns : tie.Need-returns
 returns c =
     let a = c .before .before .before .before .before .before .before .before in
     let s = sheetIn (now (a .args .sheet)) in
-    let sound = accepted-wellFormed _ s (a .pre .0) in
     let p = a .pre .1 .1 .1 in
     let filled = c .before .before .before .before .fill-tile .ensures in
     record {
       kept = filled .kept;
-      found = c .first-in-tile .ensures (exactSum s) (holding s sound _ _ _ _ (a .pre .1 .0) (p .1) (sums-kept (filled .kept) s (sound .horizon-most) (p .2)) (filled .cells));
+      found = c .first-in-tile .ensures (exactSum s) (holding s _ _ _ _ (a .pre .1 .0) (passed-kept (filled .kept) s _ _ (p .0 .ends) (p .1)) (filled .cells));
     }
 
 pub search-tile-spec : {M : Type 1} → statement M

@@ -10,21 +10,15 @@ use Rattle.cells.specs.Cells.{rows}
 use Rattle.tiles.specs.Tiles.{Progress, ModuleAdded}
 use Rattle.cells.proofs.Rows.{rows-most}
 use Rattle.tiles.proofs.Steps.{progress-kept}
-use Rattle.tiles.proofs.Cells.{module-start, module-at, row-fits, module-more}
+use Rattle.tiles.proofs.Cells.{module-start, module-rest, row-fits, module-more}
 use Rattle.tiles.proofs.add_lengths.Statement.{statement}
 use Rattle.tiles.proofs.add_lengths.Tie as tie
 
 abbrev Inv-loop : tie.InvT-loop
-Inv-loop work₀ fig₀ lo shape numbers last row₀ l₀ work fig row l = (row ≡ rows work₀ l) × (l ≤ last) × (length fig ≡ length fig₀) × (ModuleAdded shape numbers lo (length fig₀) l work₀ work) × (Each shape numbers (λ m. Progress m lo l work fig))
+Inv-loop work₀ fig₀ lo stop shape numbers row₀ l₀ work fig row l = (row ≡ rows work₀ l) × (l ≤ stop) × (length fig ≡ length fig₀) × (ModuleAdded shape numbers lo (length fig₀) l work₀ work) × (Each shape numbers (λ m. Progress m lo l work fig))
 
 abbrev μ-loop : tie.MeasureT-loop
-μ-loop work₀ fig₀ lo shape numbers last row₀ l₀ work fig row l = last - l
-
-add-last : tie.Need-add-last Inv-loop μ-loop
-add-last c = search needs
-
-sub-last : tie.Need-sub-last Inv-loop μ-loop
-sub-last c = search needs
+μ-loop work₀ fig₀ lo stop shape numbers row₀ l₀ work fig row l = stop - l
 
 loop-holds : tie.Need-loop-holds Inv-loop μ-loop
 loop-holds c = let s = c .before .before .before in (omega (arith, rows-most (s .args .work .now) 0), omega arith, refl, module-start _ _ _ _ _, s .pre .3)
@@ -73,7 +67,10 @@ same-length-2 : tie.Need-same-length-2 Inv-loop μ-loop
 same-length-2 c = search needs
 
 returns : tie.Need-returns Inv-loop μ-loop
-returns c = module-at _ _ _ _ _ _ _ _ (omega arith) (c .before .loop .inv .3)
+returns c =
+    let a = c .before .before .before .before .before in
+    let all : c .before .loop .l ≡ a .args .stop = omega arith in
+    module-rest _ _ _ _ _ _ _ _ (rw all (a .pre .4)) (c .before .loop .inv .3)
 
 pub add-lengths-spec : {M : Type 1} → statement M
 add-lengths-spec =
@@ -81,8 +78,6 @@ add-lengths-spec =
     (tie.spec
     Inv-loop
     μ-loop
-    add-last
-    sub-last
     loop-holds
     next-figures-requires
     add-add-row

@@ -3,7 +3,7 @@ use native.Mathlib.Omega.{arith}
 use borrow.Author.Needs.{needs}
 use Rattle.sums.proofs.Sums.{told-states}
 use Rattle.marks.proofs.Walk.{told-walkable}
-use Rattle.tiles.proofs.Rows.{tile-same}
+use Rattle.tiles.proofs.Rows.{longest-same, tile-same}
 use Rattle.tiles.proofs.Steps.{none-length, progress-start}
 use Rattle.tiles.proofs.Cells.{fit-begun, module-begun}
 use Rattle.tiles.proofs.add_module.Statement.{statement}
@@ -38,6 +38,7 @@ add-lengths-requires c κs =
       rw size (fit-begun _ _ _ _ (begun .within) (p .0 .ends) (p .1)),
       p .2,
       progress-start _ (p .0 .few) _ _ _ _ _ _ (omega arith) begun,
+      rw size (longest-same _ _ (λ x h. begun .within .below x (omega arith)) _ _ (omega (arith, p .0 .ends)) (p .3)),
     )
 
 same-length : tie.Need-same-length
