@@ -93,7 +93,7 @@ module _ (m : Module) (ok : ModuleRule m) (s : Shape) (numbers : List ℕ) (told
           ∙ ap (λ (y : ℕ). f (at k (next y d))) p in
           let offers = offered-is m s numbers heads f k (told .each k h) (λ y j. subst (λ (c : ℕ). y .target < c) (sym (told .modes)) (switch-rule k h y j .there)) heads-are n d x (opens k d h) v in
           let rules : All (TaskRule (period s k)) (modeAt m k .tasks) = rw p (told-rule k h .tasks) in
-          let gains = gained-is m (tasksOf s numbers k) k (period s k) (told .each k h .tasks) rules l n d (offered s k heads n (s .modes) x v) in
+          let gains = gained-is m (tasksOf s numbers k) k (period s k) (told .each k h .tasks) rules l n d (offered (s .listed) (s .every) k heads n (s .modes) x v) in
           let split = nexts-split m f k d (omega arith) in
           omega (arith, gains, offers, stays, split)
         where

@@ -60,7 +60,7 @@ module _ (f : State → ℕ) (d : ℕ) where
 module _ (m : Module) (s : Shape) (numbers heads : List ℕ) (f : State → ℕ) (k : ℕ) (told : ModeTold m s numbers k)
     (there : (w : Switch) → List·Memᴰ w (modeAt m k .switches) → w .target < s .modes) (are : (t : ℕ) → t < s .modes → look heads t ≡ f (at t 0))
     (n d x : ℕ) (opens : (t : ℕ) → t < s .modes → lists s k t ≡ true → eqb (x % every s k t) (n % every s k t) ≡ eqb ((d + 1) % every s k t) 0) where
-  offer-le : (t : ℕ) → t < s .modes → offer s k heads n x t ≤ maxOf f (targets d (modeAt m k .switches))
+  offer-le : (t : ℕ) → t < s .modes → offer (s .listed) (s .every) k heads n x t ≤ maxOf f (targets d (modeAt m k .switches))
   unfolding offerOf
   offer-le t h = pick (lists s k t) refl (eqb (x % every s k t) (n % every s k t)) refl
     where
@@ -74,20 +74,20 @@ module _ (m : Module) (s : Shape) (numbers heads : List ℕ) (f : State → ℕ)
       pick true p false q = omega arith
       pick false p b q = omega arith
 
-  le-offer : (w : Switch) → List·Memᴰ w (modeAt m k .switches) → (d + 1) % w .period ≡ 0 → f (at (w .target) 0) ≤ maxBelow (offer s k heads n x) (s .modes)
+  le-offer : (w : Switch) → List·Memᴰ w (modeAt m k .switches) → (d + 1) % w .period ≡ 0 → f (at (w .target) 0) ≤ maxBelow (offer (s .listed) (s .every) k heads n x) (s .modes)
   unfolding offerOf
   le-offer w i h =
       let p = told .listed w i in
       let test : eqb (x % every s k (w .target)) (n % every s k (w .target)) ≡ true = opens (w .target) (there w i) (p .0) ∙ eq-eqb ((d + 1) % every s k (w .target)) 0 (rw (p .1) h) in
-      let e : offer s k heads n x (w .target) ≡ look heads (w .target) = rw (p .0, test) in
-      omega (arith, e, are (w .target) (there w i), le-maxBelow (offer s k heads n x) (s .modes) (w .target) (there w i))
+      let e : offer (s .listed) (s .every) k heads n x (w .target) ≡ look heads (w .target) = rw (p .0, test) in
+      omega (arith, e, are (w .target) (there w i), le-maxBelow (offer (s .listed) (s .every) k heads n x) (s .modes) (w .target) (there w i))
 
-  pub offered-is : (v : ℕ) → offered s k heads n (s .modes) x v ≡ max v (maxOf f (targets d (modeAt m k .switches)))
+  pub offered-is : (v : ℕ) → offered (s .listed) (s .every) k heads n (s .modes) x v ≡ max v (maxOf f (targets d (modeAt m k .switches)))
   unfolding offered
   offered-is v =
       ap (max v) (le-antisymm
-      (maxBelow-le (offer s k heads n x) (maxOf f (targets d (modeAt m k .switches))) (s .modes) offer-le)
-      (targets-le f d (maxBelow (offer s k heads n x) (s .modes)) (modeAt m k .switches) le-offer))
+      (maxBelow-le (offer (s .listed) (s .every) k heads n x) (maxOf f (targets d (modeAt m k .switches))) (s .modes) offer-le)
+      (targets-le f d (maxBelow (offer (s .listed) (s .every) k heads n x) (s .modes)) (modeAt m k .switches) le-offer))
 
 -- The tasks.
 

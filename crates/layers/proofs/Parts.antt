@@ -8,7 +8,7 @@ use lib.ListN.{length, take, drop, set, length-set, List·getD-append}
 use lib.Seq.{getD-take, getD-drop, getD-append-add, length-take-le, getD-set-same, getD-set-other}
 use borrow.Rule.Slice.PartMut.{putMid, midOf, postOf, mid-len, same-len-mid, drop-put}
 use Rattle.layers.specs.declared.Shape.{Shape}
-use Rattle.layers.specs.Step.{look, total, period, tasksOf, Moved, stepped, stepAt, Replaced, Stepped, Cleared}
+use Rattle.layers.specs.Step.{look, total, period, tasksOf, Moved, stepped, stepAt, Stepped, Cleared}
 use Rattle.layers.proofs.Sums.{sum-more, sum-before}
 
 -- the part from a on, of p numbers
@@ -38,12 +38,23 @@ module _ (w : List ℕ) (a p : ℕ) (fits : a + p ≤ length w) where
       ∙ ap (λ (l : List ℕ). look l y) (drop-put a (a + p) w ys (omega arith) fits (omega arith)) ∙ getD-drop (a + p) w y 0 ∙ ap (look w) q
 
 module _ (s : Shape) (numbers heads : List ℕ) (l n : ℕ) where
+  -- what the step of one mode makes of its part
+  abbrev Step : ℕ → ℕ → ℕ → ℕ
+  Step k = stepped (s .modes) (s .listed) (s .every) k (tasksOf s numbers k) heads l n
+
+  -- the part of the mode k is one step further, and nothing else has changed
+  pub record Replaced (k : ℕ) (w w′ : List ℕ) : Type 0 where
+    pub len : length w′ ≡ length w
+    pub here : (x : ℕ) → x < period s k → look w′ (total (s .periods) k + x) ≡ stepAt s numbers heads l n w k x
+    pub below : (x : ℕ) → x < total (s .periods) k → look w′ x ≡ look w x
+    pub above : (x : ℕ) → total (s .periods) k + period s k ≤ x → look w′ x ≡ look w x
+
   -- a part that is renewed, and is back, has taken the place of the part before
   pub replaced : (k : ℕ) (w ys : List ℕ) (a : ℕ) → a ≡ total (s .periods) k → a + period s k ≤ length w
-      → Moved (stepped s k (tasksOf s numbers k) heads l n) (midOf a (a + period s k - a) w) ys → Replaced s numbers heads l n k w (putMid a (a + period s k - a) w ys)
+      → Moved (Step k) (midOf a (a + period s k - a) w) ys → Replaced k w (putMid a (a + period s k - a) w ys)
   replaced k w ys a e fits r = record {
     len = same-len-mid a (a + p - a) w ys (r .len);
-    here = λ x h. rw (sym e) (back-here w a p fits ys (r .len ∙ size) x h ∙ r .each x (omega (arith, size)) ∙ ap (stepped s k (tasksOf s numbers k) heads l n x) (part-look w a p fits x h));
+    here = λ x h. rw (sym e) (back-here w a p fits ys (r .len ∙ size) x h ∙ r .each x (omega (arith, size)) ∙ ap (Step k x) (part-look w a p fits x h));
     below = λ x h. back-below w a p fits ys x (omega arith);
     above = λ x h. back-above w a p fits ys (r .len ∙ size) x (omega arith);
   }
@@ -61,9 +72,9 @@ module _ (s : Shape) (numbers heads : List ℕ) (l n : ℕ) where
 
   -- the step of the next part sees it as it was
   pub step-same : (k : ℕ) (w w′ : List ℕ) → Stepped s numbers heads l n k w w′ → (x : ℕ) → stepAt s numbers heads l n w′ k x ≡ stepAt s numbers heads l n w k x
-  step-same k w w′ done x = ap (stepped s k (tasksOf s numbers k) heads l n x) (done .above (total (s .periods) k + x) (omega arith))
+  step-same k w w′ done x = ap (Step k x) (done .above (total (s .periods) k + x) (omega arith))
 
-  pub stepped-more : (k : ℕ) (w w′ w″ : List ℕ) → Stepped s numbers heads l n k w w′ → Replaced s numbers heads l n k w′ w″ → Stepped s numbers heads l n (k + 1) w w″
+  pub stepped-more : (k : ℕ) (w w′ w″ : List ℕ) → Stepped s numbers heads l n k w w′ → Replaced k w′ w″ → Stepped s numbers heads l n (k + 1) w w″
   stepped-more k w w′ w″ done new = record {
     len = new .len ∙ done .len;
     each = λ j x h i. pick j x h i (decLt j k);

@@ -11,7 +11,6 @@ use lib.ListN.{length, set, length-set}
 use lib.Seq.{getD-set-same, getD-set-other}
 use native.Mathlib.Numerals.{add-one}
 use borrow.Author.Tests.{eq-eqb, ne-eqb, le-leb, lt-leb}
-use Rattle.layers.specs.declared.Shape.{Shape}
 use Rattle.layers.specs.Step.{look, Moved, raised, added, offerOf, offer, dueAt, offered, gained}
 use Rattle.layers.proofs.Sums.{sum-grows}
 
@@ -131,13 +130,14 @@ module _ (tasks : List ℕ) (l n i : ℕ) where
 
 -- The first j switches, and the first j tasks.
 
-pub offered-none : (s : Shape) (k : ℕ) (heads : List ℕ) (n x v : ℕ) → offered s k heads n 0 x v ≡ v
-unfolding offered
-offered-none s k heads n x v = omega arith
+module _ (listed : List Bool) (every : List ℕ) (k : ℕ) (heads : List ℕ) (n : ℕ) where
+  pub offered-none : (x v : ℕ) → offered listed every k heads n 0 x v ≡ v
+  unfolding offered
+  offered-none x v = omega arith
 
-pub offered-more : (s : Shape) (k : ℕ) (heads : List ℕ) (n j x v : ℕ) → max (offered s k heads n j x v) (offer s k heads n x j) ≡ offered s k heads n (j + 1) x v
-unfolding offered
-offered-more s k heads n j x v = rw (add-one j) (omega arith)
+  pub offered-more : (j x v : ℕ) → max (offered listed every k heads n j x v) (offer listed every k heads n x j) ≡ offered listed every k heads n (j + 1) x v
+  unfolding offered
+  offered-more j x v = rw (add-one j) (omega arith)
 
 pub gained-none : (tasks : List ℕ) (l n x v : ℕ) → gained tasks l n 0 x v ≡ v
 unfolding gained

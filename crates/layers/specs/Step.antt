@@ -60,8 +60,8 @@ added p r g x v = v + when (eqb (x % p) r) g
 unfoldable pub offerOf : Bool → ℕ → ℕ → ℕ → ℕ → ℕ
 offerOf listed q head n x = when (listed && eqb (x % q) (n % q)) head
 
-abbrev pub offer : Shape → ℕ → List ℕ → ℕ → ℕ → ℕ → ℕ
-offer s k heads n x t = offerOf (lists s k t) (every s k t) (look heads t) n x
+abbrev pub offer : List Bool → List ℕ → ℕ → List ℕ → ℕ → ℕ → ℕ → ℕ
+offer listed every k heads n x t = offerOf (getD listed (8 * k + t) false) (look every (8 * k + t)) (look heads t) n x
 
 -- the gain of task i, where it releases an instance that is due within l ticks: at mode time d, and at the position x
 unfoldable pub due : List ℕ → ℕ → ℕ → ℕ → ℕ
@@ -72,28 +72,21 @@ dueAt tasks l n x i =
     when (leb (look tasks (4 * i + 2)) l && eqb (x % look tasks (4 * i + 3)) ((look tasks (4 * i) + (n + 1)) % look tasks (4 * i + 3))) (look tasks (4 * i + 1))
 
 -- v or the largest head that the first j targets offer; v and what the first j tasks gain
-unfoldable pub offered : Shape → ℕ → List ℕ → ℕ → ℕ → ℕ → ℕ → ℕ
-offered s k heads n j x v = max v (maxBelow (offer s k heads n x) j)
+unfoldable pub offered : List Bool → List ℕ → ℕ → List ℕ → ℕ → ℕ → ℕ → ℕ → ℕ
+offered listed every k heads n j x v = max v (maxBelow (offer listed every k heads n x) j)
 
 unfoldable pub gained : List ℕ → ℕ → ℕ → ℕ → ℕ → ℕ → ℕ
 gained tasks l n j x v = v + sumBelow (dueAt tasks l n x) j
 
 -- one tick earlier: the number at position x of the mode k for l ticks, from v, the one that stood there
-abbrev pub stepped : Shape → ℕ → List ℕ → List ℕ → ℕ → ℕ → ℕ → ℕ → ℕ
-stepped s k tasks heads l n x v = gained tasks l n (length tasks / 4) x (offered s k heads n (s .modes) x v)
+abbrev pub stepped : ℕ → List Bool → List ℕ → ℕ → List ℕ → List ℕ → ℕ → ℕ → ℕ → ℕ → ℕ
+stepped modes listed every k tasks heads l n x v = gained tasks l n (length tasks / 4) x (offered listed every k heads n modes x v)
 
 -- What stands in the layer.
 
 -- what step n + 1 makes of the layer w at position x of the mode k
 abbrev pub stepAt : Shape → List ℕ → List ℕ → ℕ → ℕ → List ℕ → ℕ → ℕ → ℕ
-stepAt s numbers heads l n w k x = stepped s k (tasksOf s numbers k) heads l n x (look w (total (s .periods) k + x))
-
--- the part of the mode k is one step further, and nothing else has changed
-pub record Replaced (s : Shape) (numbers heads : List ℕ) (l n k : ℕ) (w w′ : List ℕ) : Type 0 where
-  pub len : length w′ ≡ length w
-  pub here : (x : ℕ) → x < period s k → look w′ (total (s .periods) k + x) ≡ stepAt s numbers heads l n w k x
-  pub below : (x : ℕ) → x < total (s .periods) k → look w′ x ≡ look w x
-  pub above : (x : ℕ) → total (s .periods) k + period s k ≤ x → look w′ x ≡ look w x
+stepAt s numbers heads l n w k x = stepped (s .modes) (s .listed) (s .every) k (tasksOf s numbers k) heads l n x (look w (total (s .periods) k + x))
 
 -- the parts of the modes below j are one step further, and nothing else has changed
 pub record Stepped (s : Shape) (numbers heads : List ℕ) (l n j : ℕ) (w w′ : List ℕ) : Type 0 where

@@ -1,10 +1,10 @@
 // The layers of a module: for each of its states the largest demand in so many ticks, one length after the other.
 ghost use mathlib.Core.Path.{_≡_};
-ghost use mathlib.Core.Bool.{true};
+ghost use mathlib.Core.Bool.{true, false};
 ghost use Prim.Native.Nat.{ℕ, _+_, _*_, _/_, _%_, _^_, _<_, _≤_, max};
-ghost use lib.ListN.{length};
+ghost use lib.ListN.{length, getD};
 ghost use Rattle.model.specs.Lists.{maxBelow};
-ghost use Rattle.layers.specs.Step.{look, total, period, lists, every, Moved, raised, added, offerOf, dueAt, offered, gained, stepped, stepAt, Replaced, Stepped, Cleared, TasksReady, ModeReady, Ready};
+ghost use Rattle.layers.specs.Step.{look, total, period, Moved, raised, added, offerOf, dueAt, offered, gained, stepped, stepAt, Stepped, Cleared, TasksReady, Ready};
 ghost use Rattle.layers.specs.Layer.{IsLayer, Advanced, Steppable, SteppedBy};
 
 // What a module is to the engine, beside its tasks.
@@ -72,15 +72,22 @@ fn switch(part: &mut [u32], n: usize, listed: bool, every: u16, head: u32)
 }
 
 // All targets of mode k.
-fn switches(part: &mut [u32], n: usize, shape: Shape, k: usize, heads: &[u32; 8])
-    requires { ⌜ (k < 8) × (shape .modes ≤ 8) × ((t : ℕ) → t < shape .modes → lists shape k t ≡ true → 1 ≤ every shape k t) ⌝ }
-    ensures { λ _. ⌜ Moved (offered shape k (now (heads .entry)) n (shape .modes)) (now (part .entry)) (now (part .exit)) ⌝ }
+fn switches(
+    part: &mut [u32],
+    n: usize,
+    modes: usize,
+    listed: &[bool; 64],
+    every: &[u16; 64],
+    k: usize,
+    heads: &[u32; 8],
+)
+    requires { ⌜ (k < 8) × (modes ≤ 8) × ((t : ℕ) → t < modes → getD (now listed) (8 * k + t) false ≡ true → 1 ≤ look (now every) (8 * k + t)) ⌝ }
+    ensures { λ _. ⌜ Moved (offered (now (listed .entry)) (now (every .entry)) k (now (heads .entry)) n modes) (now (part .entry)) (now (part .exit)) ⌝ }
 {
-    let modes = shape.modes;
     let mut t = 0;
     while t < modes {
         let at = 8 * k + t;
-        switch(part, n, shape.listed[at], shape.every[at], heads[t]);
+        switch(part, n, listed[at], every[at], heads[t]);
         t += 1;
     }
 }
@@ -119,51 +126,38 @@ fn renew(
     l: usize,
     n: usize,
     tasks: &[u16],
-    shape: Shape,
+    modes: usize,
+    listed: &[bool; 64],
+    every: &[u16; 64],
     k: usize,
     heads: &[u32; 8],
 )
-    requires { ⌜ (n ≤ 2000) × (k < 8) × (shape .modes ≤ 8) × (TasksReady (now tasks)) × ((t : ℕ) → t < shape .modes → lists shape k t ≡ true → 1 ≤ every shape k t) ⌝ }
-    requires { ⌜ ((x : ℕ) → x < length (now part) → stepped shape k (now tasks) (now heads) l n x (look (now part) x) < 2 ^ 32) ⌝ }
-    ensures { λ _. ⌜ Moved (stepped shape k (now (tasks .entry)) (now (heads .entry)) l n) (now (part .entry)) (now (part .exit)) ⌝ }
+    requires { ⌜ (n ≤ 2000) × (TasksReady (now tasks)) × (k < 8) × (modes ≤ 8) × ((t : ℕ) → t < modes → getD (now listed) (8 * k + t) false ≡ true → 1 ≤ look (now every) (8 * k + t)) ⌝ }
+    requires { ⌜ ((x : ℕ) → x < length (now part) → stepped modes (now listed) (now every) k (now tasks) (now heads) l n x (look (now part) x) < 2 ^ 32) ⌝ }
+    ensures { λ _. ⌜ Moved (stepped modes (now (listed .entry)) (now (every .entry)) k (now (tasks .entry)) (now (heads .entry)) l n) (now (part .entry)) (now (part .exit)) ⌝ }
 {
-    switches(part, n, shape, k, heads);
+    switches(part, n, modes, listed, every, k, heads);
     releases(part, l, n, tasks);
 }
 
-// The same in the layer, where the part begins at from. Where it ends is handed back.
-fn replace(
-    layer: &mut [u32],
-    l: usize,
-    n: usize,
-    shape: Shape,
-    numbers: &[u16],
-    k: usize,
-    from: usize,
-    heads: &[u32; 8],
-) -> usize
-    requires { ⌜ (n ≤ 2000) × (from ≡ total (shape .periods) k) × (from + period shape k ≤ length (now layer)) × (k < shape .modes) × (shape .modes ≤ 8) × (ModeReady shape (now numbers) k) ⌝ }
-    requires { ⌜ ((x : ℕ) → x < period shape k → stepAt shape (now numbers) (now heads) l n (now layer) k x < 2 ^ 32) ⌝ }
-    ensures { λ r. ⌜ (r ≡ total (shape .periods) (k + 1)) × (Replaced shape (now (numbers .entry)) (now (heads .entry)) l n k (now (layer .entry)) (now (layer .exit))) ⌝ }
-{
-    let to = from + shape.periods[k] as usize;
-    let a = shape.starts[k] as usize;
-    let e = shape.starts[k + 1] as usize;
-    renew(&mut layer[from..to], l, n, &numbers[a..e], shape, k, heads);
-    to
-}
-
-// All modes' parts.
+// All modes' parts, one behind the other in the layer.
 fn step(layer: &mut [u32], l: usize, n: usize, shape: Shape, numbers: &[u16], heads: &[u32; 8])
     requires { ⌜ (n ≤ 2000) × (Ready shape (now numbers)) × (total (shape .periods) (shape .modes) ≤ length (now layer)) ⌝ }
     requires { ⌜ ((k x : ℕ) → k < shape .modes → x < period shape k → stepAt shape (now numbers) (now heads) l n (now layer) k x < 2 ^ 32) ⌝ }
     ensures { λ _. ⌜ Stepped shape (now (numbers .entry)) (now (heads .entry)) l n (shape .modes) (now (layer .entry)) (now (layer .exit)) ⌝ }
 {
     let modes = shape.modes;
+    // taken out once: a shape by value would be copied for each mode
+    let listed = shape.listed;
+    let every = shape.every;
     let mut from = 0;
     let mut k = 0;
     while k < modes {
-        from = replace(layer, l, n, shape, numbers, k, from, heads);
+        let to = from + shape.periods[k] as usize;
+        let a = shape.starts[k] as usize;
+        let e = shape.starts[k + 1] as usize;
+        renew(&mut layer[from..to], l, n, &numbers[a..e], modes, &listed, &every, k, heads);
+        from = to;
         k += 1;
     }
 }

@@ -17,7 +17,7 @@ releases-requires c κs =
     let s = c .before .before .before .before .before .before .before in
     let a = s .args in
     let m = c .before .before .before .switches .ensures in (
-      (s .pre .0 .0, s .pre .0 .3),
+      (s .pre .0 .0, s .pre .0 .1),
       λ x h. subst (λ (v : ℕ). gained (a .tasks .now) (a .l) (a .n) (length (a .tasks .now) / 4) x v < 2 ^ 32) (sym (moved-value m x h)) (s .pre .1 x (omega (arith, m .len))),
     )
 

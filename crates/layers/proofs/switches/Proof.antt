@@ -8,13 +8,13 @@ use Rattle.layers.proofs.switches.Statement.{statement}
 use Rattle.layers.proofs.switches.Tie as tie
 
 abbrev Inv-loop : tie.InvT-loop
-Inv-loop part₀ n k heads shape modes t₀ part t = (t ≤ shape .modes) × Moved (offered shape k heads n t) part₀ part
+Inv-loop part₀ n modes listed every k heads t₀ part t = (t ≤ modes) × Moved (offered listed every k heads n t) part₀ part
 
 abbrev μ-loop : tie.MeasureT-loop
-μ-loop part₀ n k heads shape modes t₀ part t = shape .modes - t
+μ-loop part₀ n modes listed every k heads t₀ part t = modes - t
 
 loop-holds : tie.Need-loop-holds Inv-loop μ-loop
-loop-holds c = (omega arith, moved-none _ _ (offered-none _ _ _ _))
+loop-holds c = (omega arith, moved-none _ _ (offered-none _ _ _ _ _))
 
 mul-at : tie.Need-mul-at Inv-loop μ-loop
 mul-at c = search needs
@@ -47,13 +47,13 @@ loop-less : tie.Need-loop-less Inv-loop μ-loop
 loop-less c = search needs
 
 loop-again : tie.Need-loop-again Inv-loop μ-loop
-loop-again c = (omega arith, moved-more _ _ _ _ _ _ (offered-more _ _ _ _ _) (c .before .before .before .before .before .before .before .before .loop .inv .1) (c .before .before .switch .ensures))
+loop-again c = (omega arith, moved-more _ _ _ _ _ _ (offered-more _ _ _ _ _ _) (c .before .before .before .before .before .before .before .before .loop .inv .1) (c .before .before .switch .ensures))
 
 same-length : tie.Need-same-length Inv-loop μ-loop
 same-length c = search needs
 
 returns : tie.Need-returns Inv-loop μ-loop
-returns c = moved-at (offered _ _ _ _) _ _ (omega arith) (c .before .loop .inv .1)
+returns c = moved-at (offered _ _ _ _ _) _ _ (omega arith) (c .before .loop .inv .1)
 
 pub switches-spec : {M : Type 1} → statement M
 switches-spec =
