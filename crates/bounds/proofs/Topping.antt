@@ -92,11 +92,11 @@ module _ (s : Shape) (numbers layer bits : List ℕ) (lo width l k best : ℕ) w
       let part : take (from + period s k - from) (drop from layer) ≡ partOf s layer k = rw (size, e) in
       subst (λ (p : List ℕ). Topped (ModeOffer p (tasksOf s numbers k) bits k lo l) width best r) part t
 
-  -- no stay that a mark begins has an end of the range l ticks after one of its mode times
-  pub mode-none : (a b : ℕ) → a ≡ lo - (period s k + l) → b ≡ lo + width - l → ((t : ℕ) → a ≤ t → t < b → marked bits k t ≡ false)
-      → Topped (ShapeOffer s numbers layer bits lo l k) width best best
-  mode-none a b low high none = top-kept (ShapeOffer s numbers layer bits lo l k) width best (λ i v h p.
-      let o = p .2 .offer in
-      let ends : o .tick + (p .2 .time + l) ≡ lo + i = o .offer .ends in
-      let short : p .2 .time < period s k = omega (arith, o .inside, length-take (period s k) (drop (total (s .periods) k) layer)) in
-      absurd (not-both (o .offer .marked) (none (o .tick) (omega arith) (omega arith))))
+-- no stay that a mark begins has an end of the range l ticks after one of its mode times
+pub mode-none : (part tasks bits : List ℕ) (lo width l k best a b : ℕ) → a ≡ lo - (length part + l) → b ≡ lo + width - l → ((t : ℕ) → a ≤ t → t < b → marked bits k t ≡ false)
+    → Topped (ModeOffer part tasks bits k lo l) width best best
+mode-none part tasks bits lo width l k best a b low high none = top-kept (ModeOffer part tasks bits k lo l) width best (λ i v h p.
+    let o = p .2 .offer in
+    let ends : o .tick + (p .2 .time + l) ≡ lo + i = o .offer .ends in
+    let short : p .2 .time < length part = o .inside in
+    absurd (not-both (o .offer .marked) (none (o .tick) (omega arith) (omega arith))))

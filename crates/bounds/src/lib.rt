@@ -6,7 +6,7 @@ ghost use lib.ListN.{length};
 ghost use Rattle.model.specs.Limits.{workNumbers};
 ghost use Rattle.format.specs.Judgement.{sheetIn, Accepted};
 ghost use Rattle.table.specs.Rows.{RowsOf};
-ghost use Rattle.layers.specs.Step.{look, total, period, TasksReady, ModeReady};
+ghost use Rattle.layers.specs.Step.{look, TasksReady};
 ghost use Rattle.layers.specs.Layer.{Tells, Each, IsLayer};
 ghost use Rattle.sums.specs.Sums.{Fits};
 ghost use Rattle.marks.specs.Marks.{markNumbers};
@@ -120,38 +120,22 @@ fn top_tasks(
     top
 }
 
-// Mode k of the shape; passed by where none of the marks begins a stay with an end of the range l ticks after one of its mode times.
+// Mode k, passed by where none of the marks begins a stay with an end of the range l ticks after one of its mode times.
 fn top_mode(
     best: u32,
+    part: &[u32],
+    tasks: &[u16],
+    bits: &[u32],
+    k: usize,
     lo: usize,
     width: usize,
     l: usize,
-    layer: &[u32],
-    bits: &[u32],
-    shape: Shape,
-    numbers: &[u16],
-    k: usize,
 ) -> u32
-    requires { ⌜ (total (shape .periods) k + period shape k ≤ length (now layer)) × (ModeReady shape (now numbers) k) × (l ≤ 2000) × (Room k lo width (now bits)) ⌝ }
-    ensures { λ r. ⌜ Topped (ShapeOffer shape (now (numbers .entry)) (now (layer .entry)) (now (bits .entry)) lo l k) width best r ⌝ }
+    requires { ⌜ (TasksReady (now tasks)) × (l ≤ 2000) × (0 < length (now part)) × (length (now part) < 65536) × (Room k lo width (now bits)) ⌝ }
+    ensures { λ r. ⌜ Topped (ModeOffer (now (part .entry)) (now (tasks .entry)) (now (bits .entry)) k lo l) width best r ⌝ }
 {
-    let periods = shape.periods;
-    let p = periods[k] as usize;
-    if any_mark(bits, k, less(lo, p + l), less(lo + width, l)) {
-        let from = layers::states(periods, k);
-        let to = from + p;
-        let a = shape.starts[k] as usize;
-        let e = shape.starts[k + 1] as usize;
-        return top_tasks(
-            best,
-            &layer[from..to],
-            &numbers[a..e],
-            bits,
-            k,
-            lo,
-            width,
-            l,
-        );
+    if any_mark(bits, k, less(lo, part.len() + l), less(lo + width, l)) {
+        return top_tasks(best, part, tasks, bits, k, lo, width, l);
     }
     best
 }
@@ -172,9 +156,14 @@ fn top_module(
 {
     let n = shape.modes;
     let mut top = best;
+    let mut from = 0;
     let mut k = 0;
     while k < n {
-        top = top_mode(top, lo, width, l, layer, bits, shape, numbers, k);
+        let to = from + shape.periods[k] as usize;
+        let a = shape.starts[k] as usize;
+        let e = shape.starts[k + 1] as usize;
+        top = top_mode(top, &layer[from..to], &numbers[a..e], bits, k, lo, width, l);
+        from = to;
         k += 1;
     }
     top
