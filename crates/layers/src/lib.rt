@@ -156,7 +156,17 @@ fn step(layer: &mut [u32], l: usize, n: usize, shape: Shape, numbers: &[u16], he
         let to = from + shape.periods[k] as usize;
         let a = shape.starts[k] as usize;
         let e = shape.starts[k + 1] as usize;
-        renew(&mut layer[from..to], l, n, &numbers[a..e], modes, &listed, &every, k, heads);
+        renew(
+            &mut layer[from..to],
+            l,
+            n,
+            &numbers[a..e],
+            modes,
+            &listed,
+            &every,
+            k,
+            heads,
+        );
         from = to;
         k += 1;
     }

@@ -1,34 +1,26 @@
 -- What the tests before the quick test say of a call, and that the verdict or the refusal that it then has is its answer. Assumes nothing.
-use mathlib.Core.Path.{_≡_, refl, sym, _∙_, ap, subst}
+use mathlib.Core.Path.{_≡_, sym, _∙_, ap, subst}
 use mathlib.Core.List.{List}
-use Prim.Native.Nat.{ℕ, zero, suc, _+_, _≤_, _<_}
+use Prim.Native.Nat.{ℕ, _≤_}
 use native.Mathlib.Omega.{arith}
 use lib.ListN.{length}
 use borrow.Author.Tests.{leb-true}
-use Rattle.model.specs.Sheet.{Sheet}
 use Rattle.model.specs.Limits.{maxHorizon, workNumbers}
-use Rattle.model.specs.Verdict.{quickFrom, quickSum, quick}
+use Rattle.model.specs.Verdict.{quick}
 use Rattle.format.specs.Judgement.{sheetIn}
 use Rattle.format.proofs.RoundTrip.{accepted-wellFormed}
-use Rattle.layers.specs.Step.{look}
+use Rattle.sums.specs.declared.Over.{Over}
+use Rattle.sums.specs.Sums.{quickOf}
 use Rattle.query.specs.Answer.{Terms, refused, given}
 use Rattle.query.specs.Query.{quickTerms, QuickAnswer}
 use Rattle.query.proofs.Answers.{quick-answer}
 use Rattle.query.proofs.Meeting.{met-given, stays-by}
 use Rattle.quick.specs.declared.Quick.{Quick}
 use Rattle.quick.specs.Quick.{answerOf, QuickTested}
-use Rattle.quick.specs.Sums.{SumsOf}
+use Rattle.quick.specs.Sums.{Found}
 use Rattle.quick.specs.Asking.{Asks, Sound}
 use Rattle.quick.specs.declared.Asked.the-variants as asked
-
--- the search looks at the n lengths from L on alone
-quickFrom-same : (f g : ℕ → ℕ) (n L : ℕ) → ((K : ℕ) → L ≤ K → K < L + n → f K ≡ g K) → quickFrom f n L ≡ quickFrom g n L
-quickFrom-same f g zero L e = refl
-quickFrom-same f g (suc n) L e = rw (e L (omega arith) (omega arith), quickFrom-same f g n (suc L) (λ K h l. e K (omega arith) (omega arith)))
-
-sums-quick : (s : Sheet) (n : ℕ) (w : List ℕ) → n ≡ s .horizon → ((L : ℕ) → 1 ≤ L → L ≤ s .horizon → look w L ≡ quickSum s L) → quickFrom (look w) n 1 ≡ quick s
-unfolding quick
-sums-quick s n w e sums = rw e (quickFrom-same (look w) (quickSum s) (s .horizon) 1 (λ K h l. sums K h (omega arith)))
+use Rattle.quick.proofs.Pieces.{found-all}
 
 -- What a sound call has: memory enough, and no length past the row of sums.
 
@@ -39,13 +31,13 @@ pub sound-horizon : {t : Terms} {bytes : List ℕ} {modules horizon : ℕ} → S
 sound-horizon {bytes = bytes} sound = omega (arith, sound .horizon-is, accepted-wellFormed bytes (sheetIn bytes) (sound .met .accepted) .horizon-most)
 
 module _ (bytes w w′ : List ℕ) where
-  -- what is found in the sums of the sheet's modules is the verdict
-  pub quick-is : (modules horizon : ℕ) (r : Quick) → Sound (quickTerms (length w)) bytes modules horizon → SumsOf (sheetIn bytes) w w′ → answerOf r ≡ given (quickFrom (look w′) horizon 1) → QuickTested bytes w w′ r
-  quick-is modules horizon r sound sums e =
-      let is : answerOf r ≡ given (quick (sheetIn bytes)) = e ∙ ap given (sums-quick (sheetIn bytes) horizon w′ (sound .horizon-is) (sums .sums)) in
+  -- what is found up to the horizon is the verdict
+  pub quick-is : (modules horizon : ℕ) (over : Over) (r : Quick) → Sound (quickTerms (length w)) bytes modules horizon → Found (sheetIn bytes) horizon over w w′ → answerOf r ≡ given (quickOf over) → QuickTested bytes w w′ r
+  quick-is modules horizon over r sound found e =
+      let is : answerOf r ≡ given (quick (sheetIn bytes)) = e ∙ ap given (found-all (sheetIn bytes) horizon over w w′ (sound .horizon-is) found) in
       record {
         answer = subst (QuickAnswer bytes (length w)) (met-given (quickTerms (length w)) bytes (sound .met) quick ∙ sym is) (quick-answer bytes (length w));
-        memory = rw is (stays-by workNumbers w w′ (sums .len) (sums .above));
+        memory = rw is (stays-by workNumbers w w′ (found .len) (found .above));
       }
 
 pub quick-is-refused : (bytes : List ℕ) (work : ℕ) {n p : ℕ} → Asks (quickTerms work) bytes (asked.Refused n p) → QuickAnswer bytes work (refused n p)

@@ -1,4 +1,5 @@
 pub mod Summing
 pub mod Sums
+pub mod Pieces
 pub mod Giving
 pub mod Unique

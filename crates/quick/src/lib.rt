@@ -9,7 +9,7 @@ ghost use Rattle.query.specs.Query.{quickTerms};
 ghost use Rattle.table.specs.Rows.{RowsOf};
 ghost use Rattle.sums.specs.Sums.{Fits, quickOf};
 ghost use Rattle.quick.specs.Quick.{answerOf, QuickTested};
-ghost use Rattle.quick.specs.Sums.{ModuleAdded, SumsOf};
+ghost use Rattle.quick.specs.Sums.{ModuleAdded, SumsOf, Found};
 ghost use Rattle.quick.specs.Asking.{Asks, Sound};
 use judge::Judged;
 use sums::Over;
@@ -38,31 +38,80 @@ const MEMORY_TOO_SMALL: u8 = 10;
 
 const WORK: usize = 16384;
 
-// The demands of the module k are added to the sums.
+// How many lengths are looked at first.
+const FEW: usize = 32;
+
+// The demands of the module k are added to the sums of the lengths from 1 to n.
 fn add_module(
     sheet: &[u8],
     work: &mut [u32],
     k: usize,
-    horizon: usize,
+    n: usize,
     periods: [[u16; 8]; 8],
     every: [[u16; 64]; 8],
     listed: [[bool; 64]; 8],
 )
     requires { ⌜ Accepted (now sheet) ⌝ }
     requires { ⌜ k < count (sheetIn (now sheet) .modules) ⌝ }
-    requires { ⌜ horizon ≡ sheetIn (now sheet) .horizon ⌝ }
+    requires { ⌜ n ≤ sheetIn (now sheet) .horizon ⌝ }
     requires { ⌜ RowsOf (sheetIn (now sheet)) periods every listed ⌝ }
-    requires { ⌜ (workNumbers ≤ count (now work)) × (Fits horizon (now work)) ⌝ }
-    ensures { λ _. ⌜ ModuleAdded (sheetIn (now (sheet .entry))) k (now (work .entry)) (now (work .exit)) ⌝ }
+    requires { ⌜ (workNumbers ≤ count (now work)) × (Fits n (now work)) ⌝ }
+    ensures { λ _. ⌜ ModuleAdded (sheetIn (now (sheet .entry))) n k (now (work .entry)) (now (work .exit)) ⌝ }
 {
     let engine = modules::engine_of(sheet, k, periods, every, listed);
     let shape = engine.shape;
     let numbers = engine.numbers;
-    sums::add_demands(work, horizon, shape, &numbers);
+    sums::add_demands(work, n, shape, &numbers);
 }
 
-/// At each length from 1 to the horizon the sum of the modules' demands.
-pub fn quick_sums(
+// At each length from 1 to n the sum of the modules' demands.
+fn quick_sums(
+    sheet: &[u8],
+    work: &mut [u32],
+    modules: usize,
+    n: usize,
+    periods: [[u16; 8]; 8],
+    every: [[u16; 64]; 8],
+    listed: [[bool; 64]; 8],
+)
+    requires { ⌜ Accepted (now sheet) ⌝ }
+    requires { ⌜ modules ≡ count (sheetIn (now sheet) .modules) ⌝ }
+    requires { ⌜ n ≤ sheetIn (now sheet) .horizon ⌝ }
+    requires { ⌜ RowsOf (sheetIn (now sheet)) periods every listed ⌝ }
+    requires { ⌜ workNumbers ≤ count (now work) ⌝ }
+    ensures { λ _. ⌜ SumsOf (sheetIn (now (sheet .entry))) n (now (work .entry)) (now (work .exit)) ⌝ }
+{
+    sums::clear_sums(work, n);
+    let mut k = 0;
+    while k < modules {
+        add_module(sheet, work, k, n, periods, every, listed);
+        k += 1;
+    }
+}
+
+// The first length from 1 to n whose sum exceeds it.
+fn first_over(
+    sheet: &[u8],
+    work: &mut [u32],
+    modules: usize,
+    n: usize,
+    periods: [[u16; 8]; 8],
+    every: [[u16; 64]; 8],
+    listed: [[bool; 64]; 8],
+) -> Over
+    requires { ⌜ Accepted (now sheet) ⌝ }
+    requires { ⌜ modules ≡ count (sheetIn (now sheet) .modules) ⌝ }
+    requires { ⌜ n ≤ sheetIn (now sheet) .horizon ⌝ }
+    requires { ⌜ RowsOf (sheetIn (now sheet)) periods every listed ⌝ }
+    requires { ⌜ workNumbers ≤ count (now work) ⌝ }
+    ensures { λ r. ⌜ Found (sheetIn (now (sheet .entry))) n r (now (work .entry)) (now (work .exit)) ⌝ }
+{
+    quick_sums(sheet, work, modules, n, periods, every, listed);
+    sums::first_over(work, n)
+}
+
+// The first length up to the horizon whose sum exceeds it: few lengths first, so that an early over is found early.
+fn first_of_all(
     sheet: &[u8],
     work: &mut [u32],
     modules: usize,
@@ -70,20 +119,23 @@ pub fn quick_sums(
     periods: [[u16; 8]; 8],
     every: [[u16; 64]; 8],
     listed: [[bool; 64]; 8],
-)
+) -> Over
     requires { ⌜ Accepted (now sheet) ⌝ }
     requires { ⌜ modules ≡ count (sheetIn (now sheet) .modules) ⌝ }
-    requires { ⌜ horizon ≡ sheetIn (now sheet) .horizon ⌝ }
+    requires { ⌜ (horizon ≡ sheetIn (now sheet) .horizon) × (horizon ≤ 2000) ⌝ }
     requires { ⌜ RowsOf (sheetIn (now sheet)) periods every listed ⌝ }
     requires { ⌜ workNumbers ≤ count (now work) ⌝ }
-    ensures { λ _. ⌜ SumsOf (sheetIn (now (sheet .entry))) (now (work .entry)) (now (work .exit)) ⌝ }
+    ensures { λ r. ⌜ Found (sheetIn (now (sheet .entry))) horizon r (now (work .entry)) (now (work .exit)) ⌝ }
 {
-    sums::clear_sums(work, horizon);
-    let mut k = 0;
-    while k < modules {
-        add_module(sheet, work, k, horizon, periods, every, listed);
-        k += 1;
+    let mut n = FEW;
+    while n < horizon {
+        let found = first_over(sheet, work, modules, n, periods, every, listed);
+        if let Over::At { length, sum } = found {
+            return Over::At { length, sum };
+        }
+        n *= 8;
     }
+    first_over(sheet, work, modules, horizon, periods, every, listed)
 }
 
 // Whether the quick test is refused, where so many numbers are lent.
@@ -135,8 +187,7 @@ fn quick_given(sheet: &[u8], work: &mut [u32], modules: usize, horizon: usize) -
     let periods = table::mode_periods(sheet);
     let every = table::switch_periods(sheet);
     let listed = table::switch_listed(sheet);
-    quick_sums(sheet, work, modules, horizon, periods, every, listed);
-    verdict(sums::first_over(work, horizon))
+    verdict(first_of_all(sheet, work, modules, horizon, periods, every, listed))
 }
 
 /// The quick test: the smallest length whose sum of the modules' demands exceeds it, or clear.

@@ -34,7 +34,7 @@ returns : tie.Need-returns
 returns c =
     let a = c .before .before .before .before .before .before .before .before .before .before in
     let bs = now (a .args .sheet) in
-    module-added (sheetIn bs) (a .args .k) _ _ _ _ _ (a .pre .1 .1 .0) (rule bs (a .pre .0) (a .args .k) (a .pre .1 .0)) (c .before .before .before .before .before .before .before .engine-of .ensures) (c .before .before .add-demands .ensures)
+    module-added (sheetIn bs) _ (a .args .k) _ _ _ _ (rule bs (a .pre .0) (a .args .k) (a .pre .1 .0)) (c .before .before .before .before .before .before .before .engine-of .ensures) (c .before .before .add-demands .ensures)
 
 pub add-module-spec : {M : Type 1} → statement M
 add-module-spec =

@@ -1,11 +1,8 @@
--- What is found in the sums is the verdict; only the working memory is written. Assumes nothing.
-use mathlib.Core.Path.{_∙_, ap}
-use native.Mathlib.Omega.{arith}
-use lib.ListN.{length}
-use denote.Ref.{now}
-use borrow.Author.Needs.{needs}
-use Rattle.query.specs.Answer.{given}
+-- What is found up to the horizon is the verdict; only the working memory is written. Assumes nothing.
 use Rattle.quick.proofs.Giving.{sound-room, sound-horizon, quick-is}
+use denote.Ref.{now}
+use lib.ListN.{length}
+use borrow.Author.Needs.{needs}
 use Rattle.quick.proofs.quick_given.Statement.{statement}
 use Rattle.quick.proofs.quick_given.Tie as tie
 
@@ -18,16 +15,8 @@ switch-periods-requires c κs = search needs
 switch-listed-requires : tie.Need-switch-listed-requires
 switch-listed-requires c κs = search needs
 
-quick-sums-requires : tie.Need-quick-sums-requires
-quick-sums-requires c κs =
-    let p = c .before .before .before .before .before .before .pre in
-    (p .met .accepted, (p .modules-are, (p .horizon-is, ((c .before .before .before .mode-periods .ensures, c .before .before .switch-periods .ensures, c .before .switch-listed .ensures), sound-room _ p))))
-
-first-over-requires : tie.Need-first-over-requires
-first-over-requires c κs =
-    let a = c .before .before .before .before .before .before .before .before .before .before in
-    let short = sound-horizon (a .pre) in
-    (short, omega (arith, sound-room (length (now (a .args .work))) (a .pre), c .before .before .before .quick-sums .ensures .len))
+first-of-all-requires : tie.Need-first-of-all-requires
+first-of-all-requires c κs = let p = c .before .before .before .before .before .before .pre in (p .met .accepted, (p .modules-are, ((p .horizon-is, sound-horizon p), ((c .before .before .before .mode-periods .ensures, c .before .before .switch-periods .ensures, c .before .switch-listed .ensures), sound-room (length (now (c .before .before .before .before .before .before .args .work))) p))))
 
 verdict-requires : tie.Need-verdict-requires
 verdict-requires c κs = search needs
@@ -36,9 +25,7 @@ same-length : tie.Need-same-length
 same-length c = search needs
 
 returns : tie.Need-returns
-returns c =
-    let a = c .before .before .before .before .before .before .before .before .before .before .before .before in
-    quick-is (now (a .args .sheet)) (now (a .args .work)) _ _ _ _ (a .pre) (c .before .before .before .before .before .quick-sums .ensures) (c .verdict .ensures ∙ ap given (c .before .first-over .ensures))
+returns c = quick-is (now (c .before .before .before .before .before .before .before .before .before .before .args .sheet)) (now (c .before .before .before .before .before .before .before .before .before .before .args .work)) _ _ _ _ _ (c .before .before .before .before .before .before .before .before .before .before .pre) (c .before .before .before .first-of-all .ensures) (c .verdict .ensures)
 
 pub quick-given-spec : {M : Type 1} → statement M
 quick-given-spec =
@@ -47,8 +34,7 @@ quick-given-spec =
     mode-periods-requires
     switch-periods-requires
     switch-listed-requires
-    quick-sums-requires
-    first-over-requires
+    first-of-all-requires
     verdict-requires
     same-length
     returns)

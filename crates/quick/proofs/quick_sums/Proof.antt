@@ -12,10 +12,10 @@ use Rattle.quick.proofs.quick_sums.Statement.{statement}
 use Rattle.quick.proofs.quick_sums.Tie as tie
 
 abbrev Inv-loop : tie.InvT-loop
-Inv-loop sheet work₀ modules horizon periods every listed k₀ work k = (SumsTo (sheetIn sheet) k work₀ work) × (k ≤ modules)
+Inv-loop sheet work₀ modules n periods every listed k₀ work k = (SumsTo (sheetIn sheet) n k work₀ work) × (k ≤ modules)
 
 abbrev μ-loop : tie.MeasureT-loop
-μ-loop sheet work₀ modules horizon periods every listed k₀ work k = modules - k
+μ-loop sheet work₀ modules n periods every listed k₀ work k = modules - k
 
 sound : (a : tie.Start Inv-loop μ-loop) → WellFormed (sheetIn (now (a .args .sheet)))
 sound a = accepted-wellFormed _ _ (a .pre .0)
@@ -28,7 +28,7 @@ clear-sums-requires c κs =
 loop-holds : tie.Need-loop-holds Inv-loop μ-loop
 loop-holds c =
     let a = c .before .before .before .before .before .before in
-    (sums-start _ _ _ _ (a .pre .1 .1 .0) (c .before .before .clear-sums .ensures), omega arith)
+    (sums-start _ _ _ _ (c .before .before .clear-sums .ensures), omega arith)
 
 add-module-requires : tie.Need-add-module-requires Inv-loop μ-loop
 add-module-requires c κs =
@@ -36,7 +36,7 @@ add-module-requires c κs =
     let p = a .pre .1 .1 in
     let done = c .before .before .loop .inv .0 in
     let number : c .before .before .loop .k < length (sheetIn (now (a .args .sheet)) .modules) = omega (arith, a .pre .1 .0) in
-    (a .pre .0, (number, (p .0, (p .1 .0, (omega (arith, p .1 .1, done .len, c .before .before .before .before .before .clear-sums .ensures .len), sums-fit _ (sound a) _ _ _ _ (p .0) number done)))))
+    (a .pre .0, (number, (p .0, (p .1 .0, (omega (arith, p .1 .1, done .len, c .before .before .before .before .before .clear-sums .ensures .len), sums-fit _ _ (sound a) (p .0) _ _ _ number done)))))
 
 add-k : tie.Need-add-k Inv-loop μ-loop
 add-k c = search needs
@@ -47,7 +47,7 @@ loop-less c = search needs
 loop-again : tie.Need-loop-again Inv-loop μ-loop
 loop-again c =
     let a = c .before .before .before .before .before .before .before .before .before .before .before .before in
-    (sums-more _ _ _ _ _ (omega (arith, a .pre .1 .0)) (c .before .before .before .before .before .loop .inv .0) (c .before .before .add-module .ensures), omega arith)
+    (sums-more _ _ _ _ _ _ (omega (arith, a .pre .1 .0)) (c .before .before .before .before .before .loop .inv .0) (c .before .before .add-module .ensures), omega arith)
 
 same-length : tie.Need-same-length Inv-loop μ-loop
 same-length c = search needs
@@ -55,7 +55,7 @@ same-length c = search needs
 returns : tie.Need-returns Inv-loop μ-loop
 returns c =
     let a = c .before .before .before .before .before .before .before .before in
-    sums-end _ (sound a) _ _ _ _ _ (a .pre .1 .1 .0) (omega (arith, a .pre .1 .0)) (c .before .before .before .before .clear-sums .ensures) (c .before .loop .inv .0)
+    sums-end _ _ (sound a) (a .pre .1 .1 .0) _ _ _ _ (omega (arith, a .pre .1 .0)) (c .before .before .before .before .clear-sums .ensures) (c .before .loop .inv .0)
 
 pub quick-sums-spec : {M : Type 1} → statement M
 quick-sums-spec =
