@@ -1,6 +1,6 @@
 -- Marks put together: one mark, one step after another, the strides of a switch, the targets of a mode, the modes at a tick. Assumes nothing.
 use mathlib.Core.Path.{_≡_, refl, sym, ap, _∙_, subst}
-use mathlib.Core.Bool.{Bool, true, false}
+use mathlib.Core.Bool.{Bool, true, false, true≢false}
 use mathlib.Core.List.{List}
 use mathlib.Core.Logic.{_⊎_, inl, inr, ⊎-elim, _≢_}
 use Prim.Native.Nat.{ℕ, suc, _+_, _-_, _*_, _/_, _%_, _^_, _≤_, _<_, min, max}
@@ -196,13 +196,12 @@ module _ (s : Shape) (h k t : ℕ) where
 
   -- What a mode leads to, if it is marked.
 
-  pub mode-on : {w w′ w″ : List ℕ} → marked w k t ≡ true → Marking (λ j x. (j ≡ k) × (x ≡ t + period s k) × (x ≤ h)) w w′ → Marking (Opens s h k t (s .modes)) w′ w″
-      → Marking (λ j x. (marked w k t ≡ true) × Follows s h k t j x) w w″
-  mode-on {w} o = marking-both _ _ _ split (λ j x p. (o, again (p .0) (p .1) (p .2))) (λ j x p. (o, switched p))
+  pub mode-on : {w w′ w″ : List ℕ} → Marking (λ j x. (j ≡ k) × (x ≡ t + period s k) × (x ≤ h)) w w′ → Marking (Opens s h k t (s .modes)) w′ w″ → Marking (Follows s h k t) w w″
+  mode-on = marking-both _ _ _ split (λ j x p. again (p .0) (p .1) (p .2)) (λ j x p. switched p)
     where
-      split : (j x : ℕ) → (marked w k t ≡ true) × Follows s h k t j x → ((j ≡ k) × (x ≡ t + period s k) × (x ≤ h)) ⊎ Opens s h k t (s .modes) j x
-      split j x (o, again a b c) = inl (a, b, c)
-      split j x (o, switched p) = inr p
+      split : (j x : ℕ) → Follows s h k t j x → ((j ≡ k) × (x ≡ t + period s k) × (x ≤ h)) ⊎ Opens s h k t (s .modes) j x
+      split j x (again a b c) = inl (a, b, c)
+      split j x (switched p) = inr p
 
 -- The walk to a tick.
 
@@ -236,7 +235,7 @@ module _ (s : Shape) (h t : ℕ) (ok : Walkable s) (in-row : t < 2016) where
   pub tick-none : (w : List ℕ) → Marking (Tick s h t 0 w) w w
   tick-none w = marking-none _ w (λ j x a. omega (arith, a .there))
 
-  pub tick-more : (n : ℕ) {w w′ w″ : List ℕ} → n < s .modes → Marking (Tick s h t n w) w w′ → Marking (λ j x. (marked w′ n t ≡ true) × Follows s h n t j x) w′ w″
+  tick-more : (n : ℕ) {w w′ w″ : List ℕ} → n < s .modes → Marking (Tick s h t n w) w w′ → Marking (λ j x. (marked w′ n t ≡ true) × Follows s h n t j x) w′ w″
       → Marking (Tick s h t (n + 1) w) w w″
   tick-more n {w} {w′} i A = marking-both _ _ _ split left right A
     where
@@ -255,3 +254,22 @@ module _ (s : Shape) (h t : ℕ) (ok : Walkable s) (in-row : t < 2016) where
 
       right : (j x : ℕ) → (marked w′ n t ≡ true) × Follows s h n t j x → Tick s h t (n + 1) w j x
       right j x (o, f) = record { mode = n; there = omega arith; on = tick-same n (omega arith) A n (omega (arith, ok .few)) o; follows = f }
+
+  -- the mode n is followed where it is marked
+  pub tick-on : (n : ℕ) {w w′ w″ : List ℕ} → n < s .modes → marked w′ n t ≡ true → Marking (Tick s h t n w) w w′ → Marking (Follows s h n t) w′ w″ → Marking (Tick s h t (n + 1) w) w w″
+  tick-on n i on A B = tick-more n i A (marking-as _ _ (λ j x f. (on, f)) (λ j x f. f .1) B)
+
+  pub tick-off : (n : ℕ) {w w′ : List ℕ} → n < s .modes → marked w′ n t ≡ false → Marking (Tick s h t n w) w w′ → Marking (Tick s h t (n + 1) w) w w′
+  tick-off n i off A = tick-more n i A (marking-off _ _ _ off (λ j x f. f .0))
+
+-- No mode below k is marked at tick t.
+
+pub unmarked-more : (w : List ℕ) (t k : ℕ) → marked w k t ≡ false → ((j : ℕ) → j < k → marked w j t ≡ false) → (j : ℕ) → j < k + 1 → marked w j t ≡ false
+unmarked-more w t k last before j h = pick (decLt j k)
+  where
+    pick : Dec (j < k) → marked w j t ≡ false
+    pick (yes a) = before j a
+    pick (no a) = let same : j ≡ k = omega arith in rw same last
+
+pub tick-unmarked : (s : Shape) (h t : ℕ) (w : List ℕ) → ((k : ℕ) → k < s .modes → marked w k t ≡ false) → Marking (Tick s h t (s .modes) w) w w
+tick-unmarked s h t w none = marking-none _ w (λ j x a. true≢false (sym (a .on) ∙ none (a .mode) (a .there)))

@@ -1,7 +1,7 @@
 // At which ticks the modes of a module can be begun.
 ghost use mathlib.Core.Path.{_≡_};
-ghost use mathlib.Core.Bool.{true};
-ghost use Prim.Native.Nat.{_+_, _-_, _*_, _/_, _≤_, _<_, min, max};
+ghost use mathlib.Core.Bool.{true, false};
+ghost use Prim.Native.Nat.{ℕ, _+_, _-_, _*_, _/_, _≤_, _<_, min, max};
 ghost use lib.ListN.{length};
 ghost use Rattle.layers.specs.Step.{period, lists, every};
 ghost use Rattle.marks.specs.Marks.{marked};
@@ -91,17 +91,16 @@ fn mark_targets(bits: &mut [u32], horizon: usize, t: usize, shape: Shape, k: usi
     }
 }
 
-// What mode k leads to, where it can be begun at tick t.
+// What mode k leads to, begun at tick t.
 fn mark_mode(bits: &mut [u32], horizon: usize, t: usize, shape: Shape, k: usize)
     requires { ⌜ (Walkable shape) × (k < shape .modes) × (Walked shape horizon t (now bits)) ⌝ }
-    ensures { λ _. ⌜ Marking (λ j x. (marked (now (bits .entry)) k t ≡ true) × (Follows shape horizon k t j x)) (now (bits .entry)) (now (bits .exit)) ⌝ }
+    ensures { λ _. ⌜ Marking (Follows shape horizon k t) (now (bits .entry)) (now (bits .exit)) ⌝ }
 {
-    if is_marked(bits, k, t) {
-        mark_again(bits, horizon, t, shape.periods[k], k);
-        mark_targets(bits, horizon, t, shape, k);
-    }
+    mark_again(bits, horizon, t, shape.periods[k], k);
+    mark_targets(bits, horizon, t, shape, k);
 }
 
+// What the modes lead to that can be begun at tick t.
 fn mark_tick(bits: &mut [u32], horizon: usize, t: usize, shape: Shape)
     requires { ⌜ (Walkable shape) × (Walked shape horizon t (now bits)) ⌝ }
     ensures { λ _. ⌜ Marking (Tick shape horizon t (shape .modes) (now (bits .entry))) (now (bits .entry)) (now (bits .exit)) ⌝ }
@@ -109,9 +108,26 @@ fn mark_tick(bits: &mut [u32], horizon: usize, t: usize, shape: Shape)
     let n = shape.modes;
     let mut k = 0;
     while k < n {
-        mark_mode(bits, horizon, t, shape, k);
+        if is_marked(bits, k, t) {
+            mark_mode(bits, horizon, t, shape, k);
+        }
         k += 1;
     }
+}
+
+// Whether one of the first n modes is marked at tick t.
+fn is_any_marked(bits: &[u32], n: usize, t: usize) -> bool
+    requires { ⌜ (n ≤ 8) × (t < 2016) × (504 ≤ length (now bits)) ⌝ }
+    ensures { λ r. ⌜ (r ≡ false → (k : ℕ) → k < n → marked (now (bits .entry)) k t ≡ false) ⌝ }
+{
+    let mut k = 0;
+    while k < n {
+        if is_marked(bits, k, t) {
+            return true;
+        }
+        k += 1;
+    }
+    false
 }
 
 // From the first mark to all marks: those at a tick are made before it is looked at. What begins at the horizon leads beyond it.
@@ -119,9 +135,12 @@ fn follow(bits: &mut [u32], horizon: usize, shape: Shape)
     requires { ⌜ (Walkable shape) × (Followed shape horizon 0 (now bits)) ⌝ }
     ensures { λ _. ⌜ (Kept (now (bits .entry)) (now (bits .exit))) × (Followed shape horizon horizon (now (bits .exit))) ⌝ }
 {
+    let n = shape.modes;
     let mut t = 0;
     while t < horizon {
-        mark_tick(bits, horizon, t, shape);
+        if is_any_marked(bits, n, t) {
+            mark_tick(bits, horizon, t, shape);
+        }
         t += 1;
     }
 }
