@@ -1,4 +1,4 @@
--- What the tests before the quick test say of a call, and that the verdict or the refusal that it then has is its answer. Assumes nothing.
+-- What the tests before the quick test say of a call, and that the verdict that it then has is its answer. Assumes nothing.
 use mathlib.Core.Path.{_≡_, refl, sym, _∙_, ap, subst}
 use mathlib.Core.List.{List}
 use Prim.Native.Nat.{ℕ, zero, suc, _+_, _≤_, _<_}
@@ -11,15 +11,14 @@ use Rattle.model.specs.Verdict.{quickFrom, quickSum, quick}
 use Rattle.format.specs.Judgement.{sheetIn}
 use Rattle.format.proofs.RoundTrip.{accepted-wellFormed}
 use Rattle.layers.specs.Step.{look}
-use Rattle.query.specs.Answer.{Terms, refused, given}
+use Rattle.query.specs.Answer.{Terms, given}
 use Rattle.query.specs.Query.{quickTerms, QuickAnswer}
 use Rattle.query.proofs.Answers.{quick-answer}
 use Rattle.query.proofs.Meeting.{met-given, stays-by}
 use Rattle.quick.specs.declared.Quick.{Quick}
 use Rattle.quick.specs.Quick.{answerOf, QuickTested}
 use Rattle.quick.specs.Sums.{SumsOf}
-use Rattle.quick.specs.Asking.{Asks, Sound}
-use Rattle.quick.specs.declared.Asked.the-variants as asked
+use Rattle.quick.specs.Asking.{Sound}
 
 -- the search looks at the n lengths from L on alone
 quickFrom-same : (f g : ℕ → ℕ) (n L : ℕ) → ((K : ℕ) → L ≤ K → K < L + n → f K ≡ g K) → quickFrom f n L ≡ quickFrom g n L
@@ -47,6 +46,3 @@ module _ (bytes w w′ : List ℕ) where
         answer = subst (QuickAnswer bytes (length w)) (met-given (quickTerms (length w)) bytes (sound .met) quick ∙ sym is) (quick-answer bytes (length w));
         memory = rw is (stays-by workNumbers w w′ (sums .len) (sums .above));
       }
-
-pub quick-is-refused : (bytes : List ℕ) (work : ℕ) {n p : ℕ} → Asks (quickTerms work) bytes (asked.Refused n p) → QuickAnswer bytes work (refused n p)
-quick-is-refused bytes work asks = subst (QuickAnswer bytes work) (asks quick) (quick-answer bytes work)
