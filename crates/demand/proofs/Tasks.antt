@@ -72,12 +72,12 @@ module _ {bs : List ℕ} {p n : ℕ} (tasks : Tasks bs p n) where
         omega (arith, tasks .count (some .k) (some .j) (some .there), some-within bs (tasks .accepted) (tasks .bytes) p some)
 
     -- what stands behind i tasks is the task i of the mode
-    module _ (x : Task) (e : recordAt TK bs (p + 4 + 10 * i) ≡ tk x) where
+    module _ (x : Task) (e : tk x ≡ recordAt TK bs (p + 4 + 10 * i)) where
       task-there : (k j : ℕ) → ModeThere (sheetIn bs) k j p → x ≡ getD (modeAt (moduleAt (sheetIn bs) k) j .tasks) i x
       task-there k j h =
           let o : Mode = modeAt (moduleAt (sheetIn bs) k) j in
           let there : recordAt TK bs (p + 4 + 10 * i) ≡ tk (getD (o .tasks) i x) = rw (h .place) (task-record bs (tasks .accepted) (tasks .bytes) k (h .number) j (h .mode) i x (omega (arith, tasks .count k j h))) in
-          let same : tk x ≡ tk (getD (o .tasks) i x) = sym e ∙ there in
+          let same : tk x ≡ tk (getD (o .tasks) i x) = e ∙ there in
           cc
 
       pub task-countable : Countable x
@@ -104,7 +104,7 @@ module _ {bs : List ℕ} {p n a b demand i : ℕ} (done : Summed bs p n a b dema
   pub sum-fits : i < n → (r : ℕ) → r ≤ 2 * maxModePeriod → demand + r < 4294967296
   sum-fits l r h = omega (arith, done .bound, tasks-few (done .tasks))
 
-  pub summed-more : i < n → (x : Task) → recordAt TK bs (p + 4 + 10 * i) ≡ tk x → (r : ℕ) → Counted x a b r → Summed bs p n a b (demand + r) (i + 1)
+  pub summed-more : i < n → (x : Task) → tk x ≡ recordAt TK bs (p + 4 + 10 * i) → (r : ℕ) → Counted x a b r → Summed bs p n a b (demand + r) (i + 1)
   summed-more l x e r c =
       record {
         tasks = done .tasks;

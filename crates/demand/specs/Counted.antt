@@ -1,14 +1,9 @@
--- The numbers of a task, what is known of them where its instances are counted, and what is counted. Assumes nothing.
+-- What is known of a task where its instances are counted, and what is counted. Assumes nothing.
 use mathlib.Core.Path.{_≡_}
 use Prim.Native.Nat.{ℕ, _+_, _*_, _≤_}
 use Rattle.model.specs.Sheet.{Task}
 use Rattle.model.specs.Limits.{maxModePeriod}
 use Rattle.model.specs.Demand.{instances}
-use Rattle.demand.specs.declared.Task.{Task as Numbers}
-
--- the task that has these numbers
-abbrev pub taskOf : Numbers → Task
-taskOf x = record { offset = x .offset; cost = x .cost; LET = x .due; period = x .period }
 
 -- a and b are mode times, in order
 pub record Times (a b : ℕ) : Type 0 where

@@ -1,4 +1,4 @@
--- What an answer of `mode_demand` says: the paper's number and place, or the amount (document 01, 'Refusal numbers' and 'The calls'). Assumes nothing.
+-- What an answer of `mode_demand` says, for each case of the enum: the paper's number and place (document 01, 'Refusal numbers'), or the mode demand ('Runs'). Assumes nothing.
 use Prim.Native.Nat.{ℕ}
 use Rattle.query.specs.Answer.{Answer, refused, given}
 use Rattle.demand.specs.declared.Demand.{Demand}

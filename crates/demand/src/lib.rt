@@ -1,17 +1,18 @@
 // What a mode of a sheet demands between two of its mode times, counted from the four numbers of each task.
 ghost use mathlib.Core.Path.{_≡_};
-ghost use Prim.Native.Nat.{ℕ, _+_, _*_, _<_, _≤_};
+ghost use Prim.Native.Nat.{ℕ};
 ghost use lib.ListN.{length};
 ghost use Rattle.model.specs.Sheet.{moduleAt};
 ghost use Rattle.model.specs.Run.{modeAt};
 ghost use Rattle.model.specs.Demand.{instances, modeDemand};
-ghost use Rattle.format.specs.Record.{TK, tk, recordAt};
 ghost use Rattle.format.specs.Judgement.{sheetIn, Accepted};
 ghost use Rattle.query.specs.Query.{ModeAnswer};
+ghost use Rattle.place.specs.Numbers.{taskOf};
 ghost use Rattle.place.specs.There.{ModeThere, SomeMode};
 ghost use Rattle.demand.specs.Demanded.{answerOf};
-ghost use Rattle.demand.specs.Counted.{taskOf, Times, Countable, Counted};
+ghost use Rattle.demand.specs.Counted.{Times, Countable, Counted};
 use judge::Judged;
+use place::Task;
 
 // The demand that is asked for, or the refusal's number and place.
 pub enum Demand {
@@ -25,27 +26,6 @@ pub struct Amount {
 
 // The refusal number of an argument out of range.
 const OUT_OF_RANGE: u8 = 9;
-
-// The numbers of a task; LET is called due.
-struct Task {
-    offset: u16,
-    cost: u16,
-    due: u16,
-    period: u16,
-}
-
-// The task at q.
-fn task_at(sheet: &[u8], q: usize) -> Task
-    requires { ⌜ q + 10 ≤ length (now sheet) ⌝ }
-    ensures { λ r. ⌜ recordAt TK (now (sheet .entry)) q ≡ tk (taskOf r) ⌝ }
-{
-    Task {
-        offset: place::field(sheet, q + 2),
-        cost: place::field(sheet, q + 4),
-        due: place::field(sheet, q + 6),
-        period: place::field(sheet, q + 8),
-    }
-}
 
 // How many instances of the task are released at or after a and due at or before b: of those due by b, those that are not released before a.
 fn instances(task: Task, a: u32, b: u32) -> u32
@@ -83,7 +63,7 @@ fn tasks_demand(sheet: &[u8], p: usize, a: u32, b: u32) -> u32
     let mut demand = 0;
     let mut i = 0;
     while i < n {
-        let task = task_at(sheet, p + 4 + 10 * i);
+        let task = place::task_at(sheet, p + 4 + 10 * i);
         demand += task_demand(task, a, b);
         i += 1;
     }

@@ -1,20 +1,19 @@
 -- The ticks given to an instance: they only grow; a tick that is given to it counts; in an order of work there are none before its release; and an instance
 -- of a well-formed sheet is released before it is due. Assumes nothing.
-use mathlib.Core.Path.{_≡_, refl, _∙_, ap, subst}
+use mathlib.Core.Path.{_≡_, refl, _∙_, ap}
 use mathlib.Core.Bool.{Bool}
 use mathlib.Core.List.{List, [], _∷_, List·Memᴰ, List·Memᴰ·head, List·Memᴰ·tail}
 use Prim.Native.Nat.{ℕ, zero, suc, _+_, _≤_, _<_}
 use native.Mathlib.Nat.{le-refl}
-use native.Mathlib.Decide.{le-ind, decLt}
+use native.Mathlib.Decide.{le-ind}
 use native.Mathlib.Omega.{arith}
-use lib.ListN.{length, List·getD-eq-default}
 use borrow.Author.Tests.{eq-eqb}
 use Rattle.model.specs.Lists.{when, Nth}
-use Rattle.model.specs.Sheet.{Task, Mode, Module, Sheet}
+use Rattle.model.specs.Sheet.{Task, Module, Sheet}
 use Rattle.model.specs.WellFormed.{TaskRule, ModuleRule, WellFormed}
-use Rattle.model.specs.Run.{State, idle, modeOf}
+use Rattle.model.specs.Run.{State, modeOf}
 use Rattle.model.proofs.Lists.{all-mem}
-use Rattle.model.proofs.Runs.{mode-rule}
+use Rattle.model.proofs.Runs.{rule-at}
 use Rattle.edf.specs.Work.{Runs, Instance, IsInstance, Work, Slot, unused, given, hit, done, Order}
 use Rattle.edf.proofs.Once.{other-release}
 
@@ -43,17 +42,18 @@ nth-in (y ∷ ys) zero x n = List·Memᴰ·head n
 nth-in (y ∷ ys) (suc i) x n = List·Memᴰ·tail (nth-in ys i x n)
 
 -- the rules of a task of the mode of a state
-task-rule : (m : Module) → ModuleRule m → (c : State) (i : ℕ) (task : Task) → Nth (modeOf m c .tasks) i task → TaskRule (modeOf m c .period) task
-task-rule m ok c i task n = pick (decLt (c .mode) (length (m .modes)))
-  where
-    pick : Dec (c .mode < length (m .modes)) → TaskRule (modeOf m c .period) task
-    pick (yes l) = all-mem (TaskRule (modeOf m c .period)) task (modeOf m c .tasks) (mode-rule m ok (c .mode) l .tasks) (nth-in (modeOf m c .tasks) i task n)
-    pick (no l) = absurd (subst (λ (o : Mode). Nth (o .tasks) i task) (List·getD-eq-default (m .modes) idle {n = c .mode} (omega arith)) n)
+pub task-rule : (m : Module) → ModuleRule m → (c : State) (k : Task) → List·Memᴰ k (modeOf m c .tasks) → TaskRule (modeOf m c .period) k
+task-rule m ok c k = all-mem (TaskRule (modeOf m c .period)) k (modeOf m c .tasks) (rule-at m ok (c .mode) .tasks)
 
-pub released-before-due : (s : Sheet) → WellFormed s → (ρs : Runs) (x : Instance) → IsInstance s ρs x → x .release < x .due
-released-before-due s ok ρs x is = omega (arith, is .is-due, rule .works, rule .fits)
-  where
-    rule : TaskRule (modeOf (is .owner) (ρs (x .module-number) (x .release)) .period) (is .task)
-    rule =
-        task-rule (is .owner) (all-mem ModuleRule (is .owner) (s .modules) (ok .modules) (nth-in (s .modules) (x .module-number) (is .owner) (is .is-owner)))
-        (ρs (x .module-number) (x .release)) (x .task-number) (is .task) (is .is-task)
+module _ (s : Sheet) (ok : WellFormed s) (ρs : Runs) (x : Instance) (is : IsInstance s ρs x) where
+  pub owner-rule : ModuleRule (is .owner)
+  owner-rule = all-mem ModuleRule (is .owner) (s .modules) (ok .modules) (nth-in (s .modules) (x .module-number) (is .owner) (is .is-owner))
+
+  pub task-in : List·Memᴰ (is .task) (modeOf (is .owner) (ρs (x .module-number) (x .release)) .tasks)
+  task-in = nth-in _ (x .task-number) (is .task) (is .is-task)
+
+  pub released-before-due : x .release < x .due
+  released-before-due = omega (arith, is .is-due, rule .works, rule .fits)
+    where
+      rule : TaskRule (modeOf (is .owner) (ρs (x .module-number) (x .release)) .period) (is .task)
+      rule = task-rule (is .owner) owner-rule (ρs (x .module-number) (x .release)) (is .task) task-in

@@ -8,3 +8,4 @@ pub mod Clear
 pub mod Building
 pub mod Verdicts
 pub mod Meaning
+pub mod Stays

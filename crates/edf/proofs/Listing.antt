@@ -1,7 +1,7 @@
 -- The instances of given runs that are released in a stretch of ticks and pass a test, as a list: it holds each of them, and nothing else; and the costs of
 -- those that are released at or after a and due at or before b add up to the demand of the runs. Assumes nothing.
 use mathlib.Core.Path.{_≡_, refl, _∙_}
-use mathlib.Core.Bool.{Bool, true, false, _&&_}
+use mathlib.Core.Bool.{Bool, true, false, _&&_, and-eq-true-iff}
 use mathlib.Core.List.{List, [], List·Memᴰ, List·Memᴰ·head, List·Memᴰ·eq-of-singleton, List·Memᴰ·not-nil}
 use Prim.Native.Nat.{ℕ, _+_, _-_, _≤_, _<_}
 use native.Mathlib.Nat.{add-zero}
@@ -42,17 +42,6 @@ pub record Among (keep : Instance → Bool) (s : Sheet) (ρs : Runs) (a n : ℕ)
   pub before : x .release < a + n
   pub kept : keep x ≡ true
 
-and-both : (b c : Bool) → b ≡ true → c ≡ true → b && c ≡ true
-and-both b c e f = rw (e, f)
-
-and-left : (b c : Bool) → b && c ≡ true → b ≡ true
-and-left true c e = refl
-and-left false c e = e
-
-and-right : (b c : Bool) → b && c ≡ true → c ≡ true
-and-right true c e = e
-and-right false c e = cc
-
 consIf-only : (b : Bool) (x y : Instance) → List·Memᴰ y (consIf b x []) → (b ≡ true) × (y ≡ x)
 consIf-only true x y m = (refl, List·Memᴰ·eq-of-singleton m)
 consIf-only false x y m = absurd (List·Memᴰ·not-nil m)
@@ -64,6 +53,7 @@ module _ (keep : Instance → Bool) (s : Sheet) (ρs : Runs) (a n : ℕ) where
   made : (k t i : ℕ) (m : Module) (task : Task) → Nth (s .modules) k m → a ≤ t → t < a + n → Nth (modeOf m (ρs k t) .tasks) i task
       → releases (ρs k t) task && keep (instanceOf k t i task) ≡ true → Among keep s ρs a n (instanceOf k t i task)
   made k t i m task is-m from before is-task both =
+      let e = and-eq-true-iff (releases (ρs k t) task) (keep (instanceOf k t i task)) .0 both in
       record {
         is-instance =
             record {
@@ -71,13 +61,13 @@ module _ (keep : Instance → Bool) (s : Sheet) (ρs : Runs) (a n : ℕ) where
               task = task;
               is-owner = is-m;
               is-task = is-task;
-              released = and-left (releases (ρs k t) task) (keep (instanceOf k t i task)) both;
+              released = e .0;
               is-due = refl;
               is-cost = refl;
             };
         from = from;
         before = before;
-        kept = and-right (releases (ρs k t) task) (keep (instanceOf k t i task)) both;
+        kept = e .1;
       }
 
   pub in-listed : (x : Instance) → List·Memᴰ x (listed keep s ρs a n) → Among keep s ρs a n x
@@ -94,7 +84,7 @@ module _ (keep : Instance → Bool) (s : Sheet) (ρs : Runs) (a n : ℕ) where
   listed-in x h =
       joinOver-in (ofModule keep ρs a n) (s .modules) x k (is .owner) (is .is-owner)
       (joinTicks-in (atTick keep ρs k (is .owner)) a n x t (h .from) (h .before)
-      (joinOver-in (ofTask keep (ρs k t) k t) (modeOf (is .owner) (ρs k t) .tasks) x i (is .task) (is .is-task) (consIf-here _ _ x (and-both _ _ (is .released) (rw e at (h .kept))) e)))
+      (joinOver-in (ofTask keep (ρs k t) k t) (modeOf (is .owner) (ρs k t) .tasks) x i (is .task) (is .is-task) (consIf-here _ _ x (and-eq-true-iff _ _ .1 (is .released, rw e at (h .kept))) e)))
     where
       is : IsInstance s ρs x
       is = h .is-instance

@@ -1,6 +1,6 @@
 -- One tick works on one of the listed instances at most: no two of them are the same. Assumes nothing.
-use mathlib.Core.Path.{_≡_, refl, _∙_, ap}
-use mathlib.Core.Bool.{Bool, true, false, _&&_}
+use mathlib.Core.Path.{_≡_, _∙_, ap}
+use mathlib.Core.Bool.{Bool, true, false, _&&_, and-false}
 use mathlib.Core.List.{[]}
 use Prim.Native.Nat.{ℕ, _-_, _≤_, zero-le}
 use native.Mathlib.Nat.{le-refl}
@@ -16,10 +16,6 @@ use Rattle.edf.proofs.Joined.{sumOver, sumOver-none, sumOver-one, ticks
 use Rattle.edf.proofs.Listing.{instanceOf, ofTask, ofModule, listed, sum-ofModule, sum-listed, dueBy, inside}
 
 -- instances of another module, of another task, of another release are not the same
-
-and-false : (b : Bool) → b && false ≡ false
-and-false true = refl
-and-false false = refl
 
 other-module : (x y : Instance) → (x .module-number ≡ y .module-number → ⊥) → same x y ≡ false
 other-module x y n = rw (ne-eqb (x .module-number) (y .module-number) n)

@@ -1,2 +1,3 @@
 pub mod Work
 pub mod Shown
+pub mod Stay

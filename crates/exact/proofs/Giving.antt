@@ -1,4 +1,4 @@
--- What the tests before the exact test say of a call, and that the verdict, the tapes or the refusal that it then has are its answer. Assumes nothing.
+-- What the tests before the exact test say of a call, and that the verdict and the tapes that it then has are its answer. Assumes nothing.
 use mathlib.Core.Path.{_≡_, refl, sym, _∙_, ap, subst}
 use mathlib.Core.Bool.{Bool, true, false, _&&_, and-eq-true-iff}
 use mathlib.Core.List.{List}
@@ -15,7 +15,7 @@ use Rattle.model.proofs.Verdicts.{exact-is}
 use Rattle.format.specs.Judgement.{sheetIn}
 use Rattle.format.proofs.RoundTrip.{accepted-wellFormed}
 use Rattle.judge.proofs.JudgedLaws.{AcceptedWith}
-use Rattle.query.specs.Answer.{refused, given}
+use Rattle.query.specs.Answer.{given}
 use Rattle.query.specs.Query.{Witnessed, exactTerms, witnessed, ExactAnswer}
 use Rattle.query.specs.Memory.{Stays}
 use Rattle.query.proofs.Answers.{exact-answer}
@@ -24,7 +24,6 @@ use Rattle.quick.specs.Asking.{Sound}
 use Rattle.witness.specs.Witness.{WitnessWritten}
 use Rattle.exact.specs.declared.Exact.the-variants.{Clear, Over}
 use Rattle.exact.specs.declared.Asked.{Asked}
-use Rattle.exact.specs.declared.Asked.the-variants as asked
 use Rattle.exact.specs.Exact.{ExactTested}
 use Rattle.exact.specs.Asking.{Asks, sound}
 
@@ -74,6 +73,3 @@ module _ (bytes w w′ t : List ℕ) {modules horizon : ℕ} (met : Sound (exact
     memory = left;
     tape = done .stays;
   }
-
-pub exact-is-refused : (bytes : List ℕ) (work tape : ℕ) {n p : ℕ} → Asks (exactTerms work tape) bytes (asked.Refused n p) → ExactAnswer bytes work tape (refused n p)
-exact-is-refused bytes work tape asks = subst (ExactAnswer bytes work tape) (asks witnessed) (exact-answer bytes work tape)

@@ -1,6 +1,6 @@
 -- Sound records that end with EN are the records of the sheet gathered from them, and that sheet is well-formed. Assumes nothing.
 use mathlib.Core.Path.{_≡_, refl, sym}
-use mathlib.Core.Bool.{Bool, true, false, not, _&&_, _||_, false≢true}
+use mathlib.Core.Bool.{Bool, true, false, not, _||_, false≢true, and-eq-true-iff}
 use mathlib.Core.List.{List, [], _∷_, _++_, map, reverse, reverseAux, reverseAux-eq, append-assoc}
 use Prim.Native.Nat.{ℕ, _+_, _%_, _≤_, _<_}
 use native.Mathlib.Omega.{arith}
@@ -19,22 +19,18 @@ use Rattle.format.proofs.Sizes.{small}
 
 -- What the tests tell.
 
-both : (a b : Bool) → (a && b) ≡ true → (a ≡ true) × (b ≡ true)
-both true b e = (refl, e)
-both false b e = absurd (false≢true e)
-
 neither : (a b : Bool) → (a || b) ≡ false → (a ≡ false) × (b ≡ false)
 neither true b e = absurd (false≢true (sym e))
 neither false b e = (refl, e)
 
 inside : (least most n : ℕ) → between least most n ≡ true → (least ≤ n) × (n ≤ most)
 inside least most n e =
-    let p = both _ _ e in
+    let p = and-eq-true-iff _ _ .0 e in
     (leb-true _ _ (p .0), leb-true _ _ (p .1))
 
 divided : (p n : ℕ) → divides p n ≡ true → (1 ≤ p) × (n % p ≡ 0)
 divided p n e =
-    let d = both (leb 1 p) (eqb (n % p) 0) e in
+    let d = and-eq-true-iff (leb 1 p) (eqb (n % p) 0) .0 e in
     (leb-true _ _ (d .0), eqb-true _ _ (d .1))
 
 -- a module or a mode is open only after some record
@@ -98,18 +94,18 @@ record Kept (rs : List Record) (ks : List Task) (ws : List Switch) (os : List Mo
 task-rule : (period : ℕ) (k : Task) → taskRuled period k ≡ true → TaskRule period k
 unfolding taskRuled
 task-rule period k e =
-    let fourth = both _ (divides (k .period) period) e in
-    let third = both _ _ (fourth .0) in
-    let second = both _ _ (third .0) in
+    let fourth = and-eq-true-iff _ (divides (k .period) period) .0 e in
+    let third = and-eq-true-iff _ _ .0 (fourth .0) in
+    let second = and-eq-true-iff _ _ .0 (third .0) in
     record { works = leb-true _ _ (second .0); fits = leb-true _ _ (second .1); within = leb-true _ _ (third .1); divides = divided (k .period) period (fourth .1) .1 }
 
 switch-rule : (rs : List Record) (w : Switch) → switchRuled rs w ≡ true → SwitchKept rs [] w
 unfolding switchRuled
 switch-rule rs w e =
-    let fifth = both _ _ e in
-    let fourth = both _ (divides (w .period) (modePeriod rs)) (fifth .0) in
-    let third = both _ _ (fourth .0) in
-    let second = both _ _ (third .0) in
+    let fifth = and-eq-true-iff _ _ .0 e in
+    let fourth = and-eq-true-iff _ (divides (w .period) (modePeriod rs)) .0 (fifth .0) in
+    let third = and-eq-true-iff _ _ .0 (fourth .0) in
+    let second = and-eq-true-iff _ _ .0 (third .0) in
     let d = divided (w .period) (modePeriod rs) (fourth .1) in
     record {
       there = ltb-true _ _ (second .0);
@@ -155,7 +151,7 @@ module _ (n : ℕ) (rs : List Record) (os : List Mode) (ms : List Module) (s : S
       (Fits rs [] [] [] → Kept rs [] [] [] (closedModule ∷ ms) → Gathers rs [] [] [] (closedModule ∷ ms) s) → Gathers (ml n ∷ rs) [] [] os ms s
   unfolding ordered ruled moduleRecords
   at-ml a f v next =
-      let o : (not (isEmpty rs) ≡ true) × (eqb (seen rs) (stated rs) ≡ true) = both _ _ (a .2 .order) in
+      let o : (not (isEmpty rs) ≡ true) × (eqb (seen rs) (stated rs) ≡ true) = and-eq-true-iff _ _ .0 (a .2 .order) in
       let m : length os ≡ n = omega (arith, f .modes) in
       let r : (1 ≤ n) × (n ≤ maxModes) = inside 1 maxModes n (a .2 .value) in
       let rule : ModuleRule closedModule = record { least = omega arith; most = omega arith; modes = rw m (v .modes) } in
@@ -185,7 +181,7 @@ module _ (p : ℕ) (rs : List Record) (ks : List Task) (ws : List Switch) (os : 
 module _ (k : Task) (rs : List Record) (ks : List Task) (ws : List Switch) (os : List Mode) (ms : List Module) (s : Sheet) where
   switch-after-task : (w : Switch) → SwitchKept (tk k ∷ rs) ks w → SwitchKept rs (k ∷ ks) w
   switch-after-task w c =
-      let d = both (divides (k .period) (w .period)) (eachDivides (tasksRead rs) (w .period)) (c .multiple-before) in
+      let d = and-eq-true-iff (divides (k .period) (w .period)) (eachDivides (tasksRead rs) (w .period)) .0 (c .multiple-before) in
       record {
         there = c .there;
         other = c .other;
@@ -200,7 +196,7 @@ module _ (k : Task) (rs : List Record) (ks : List Task) (ws : List Switch) (os :
       (Fits rs (k ∷ ks) ws os → Kept rs (k ∷ ks) ws os ms → Gathers rs (k ∷ ks) ws os ms s) → Gathers (tk k ∷ rs) ks ws os ms s
   unfolding ordered ruled
   at-tk a f v next =
-      let o : (ltb 0 (seen rs) ≡ true) × (isEmpty (switchesRead rs) ≡ true) = both _ _ (a .2 .order) in
+      let o : (ltb 0 (seen rs) ≡ true) × (isEmpty (switchesRead rs) ≡ true) = and-eq-true-iff _ _ .0 (a .2 .order) in
       let h : 0 < seen rs = ltb-true _ _ (o .0) in
       let fits : Fits rs (k ∷ ks) ws os =
       record { begun = begun-by rs (omega arith); open-end = a .1; tasks = (h, o .1); switches = f .switches; modes = f .modes } in
@@ -289,7 +285,7 @@ module _ (rs : List Record) (n : ℕ) (a : AllSound (en n ∷ rs)) where
   at-end : (0 < modulesRead rs) × (seen rs ≡ stated rs)
   unfolding ordered
   at-end =
-      let o = both _ _ (a .2 .order) in
+      let o = and-eq-true-iff _ _ .0 (a .2 .order) in
       (ltb-true _ _ (o .0), eqb-true _ _ (o .1))
 
   all-gathered : Gathers rs [] [] [] [] (gathered (en n ∷ rs))

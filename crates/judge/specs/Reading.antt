@@ -6,7 +6,7 @@ use mathlib.Core.List.{List, [], _∷_}
 use Prim.Native.Nat.{ℕ, zero, suc, _+_, _*_, _≤_}
 use lib.Dec.{ltb, eqb}
 use lib.ListN.{length, getD}
-use Rattle.model.specs.Sheet.{Task, Switch}
+use Rattle.model.specs.Sheet.{Switch}
 use Rattle.model.specs.Limits.{maxModules, maxModes, maxModeTasks, maxTasks, maxSwitches, maxBytes}
 use Rattle.format.specs.Record.{Mark, HZ, ML, MD, TK, SW, EN, Record, hz, ml, md, tk, sw, en, size, recordAt}
 use Rattle.format.specs.Rules.{ofMD, ofTK, ofSW, taken, modulesRead, stated, seen, modePeriod, tasksRead, switchesRead, isEmpty, ended, counted, divides, eachDivides, named, ruled, fieldNumber}
@@ -14,7 +14,6 @@ use Rattle.format.specs.Judgement.{Tested, fault, sound, orFault, tested}
 use Rattle.format.specs.Refusal.{bytesIn}
 use Rattle.judge.specs.declared.Mark.{Mark as CodeMark}
 use Rattle.judge.specs.declared.Mark.the-variants.{Hz, Ml, Md, Tk, Sw, En}
-use Rattle.judge.specs.declared.Task.{Task as CodeTask}
 use Rattle.judge.specs.declared.Switch.{Switch as CodeSwitch}
 use Rattle.judge.specs.declared.Found.{Found}
 use Rattle.judge.specs.declared.Found.the-variants.{Listed, Unlisted}
@@ -22,7 +21,7 @@ use Rattle.judge.specs.declared.Test.the-variants.{Sound, Fault}
 use Rattle.judge.specs.declared.Sheet.{Sheet}
 use Rattle.judge.specs.declared.Turn.{Turn}
 
--- The code's marks, tasks and switches.
+-- The code's marks and switches.
 
 abbrev pub marked : CodeMark → Mark
 marked Hz = HZ
@@ -35,9 +34,6 @@ marked En = EN
 abbrev pub found : Found → Option Mark
 found (Listed m) = some (marked m)
 found Unlisted = none
-
-abbrev pub taskOf : CodeTask → Task
-taskOf k = record { offset = k .offset; cost = k .cost; LET = k .due; period = k .period }
 
 abbrev pub switchOf : CodeSwitch → Switch
 switchOf w = record { target = w .target; period = w .period }

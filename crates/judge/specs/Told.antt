@@ -1,4 +1,4 @@
--- What an answer of `judge` says: the paper's number and place, or the counts and the horizon (document 01, 'Refusal numbers' and 'The calls'). Assumes nothing.
+-- What an answer of `judge` says, for each case of the enum: the paper's number and place (document 01, 'Refusal numbers'), or the counts and the horizon. Assumes nothing.
 use Prim.Native.Nat.{ℕ}
 use Rattle.model.specs.Sheet.{Counts, counts}
 use Rattle.format.specs.Judgement.{Judgement, refused, accepted}

@@ -1,14 +1,16 @@
 // Judges the bytes of a timing sheet, record by record from the front.
 ghost use mathlib.Core.Path.{_≡_};
 ghost use mathlib.Core.List.{[]};
-ghost use Prim.Native.Nat.{_+_, _<_, _≤_};
-ghost use lib.ListN.{length, getD};
+ghost use Prim.Native.Nat.{_+_, _≤_};
+ghost use lib.ListN.{length};
 ghost use Rattle.model.specs.Limits.{maxModes, maxModeTasks, maxBytes, workNumbers};
-ghost use Rattle.format.specs.Record.{HZ, ML, MD, TK, SW, EN, tk, sw, size, fieldAt, markCoded, markAt, recordAt};
+ghost use Rattle.format.specs.Record.{HZ, ML, MD, TK, SW, EN, sw, size, markCoded, markAt, recordAt};
 ghost use Rattle.format.specs.Rules.{between, divides, taskRuled};
 ghost use Rattle.format.specs.Judgement.{judgement};
+ghost use Rattle.place.specs.Numbers.{taskOf};
 ghost use Rattle.judge.specs.Told.{told, tellsOf};
-ghost use Rattle.judge.specs.Reading.{marked, found, taskOf, switchOf, inOrder, eachOf, switchKept, onward, Reads, Within, Room, Judges, Steps};
+ghost use Rattle.judge.specs.Reading.{marked, found, switchOf, inOrder, eachOf, switchKept, onward, Reads, Within, Room, Judges, Steps};
+use place::Task;
 
 // The judgement of a sheet.
 pub enum Judged {
@@ -32,14 +34,6 @@ enum Mark {
     Tk,
     Sw,
     En,
-}
-
-// The fields of TK; LET is called due.
-struct Task {
-    offset: u16,
-    cost: u16,
-    due: u16,
-    period: u16,
 }
 
 // The fields of SW.
@@ -83,23 +77,6 @@ const BAD_END: u8 = 7;
 
 const BYTES_AFTER: u8 = 8;
 
-fn byte(s: &[u8], i: usize) -> u16
-    requires { ⌜ i < length (now s) ⌝ }
-    ensures { λ r. ⌜ (r ≡ getD (now (s .entry)) i 0) × (r < 256) ⌝ }
-{
-    s[i] as u16
-}
-
-// A field: low byte first.
-fn field(s: &[u8], i: usize) -> u16
-    requires { ⌜ i + 2 ≤ length (now s) ⌝ }
-    ensures { λ r. ⌜ r ≡ fieldAt (now (s .entry)) i ⌝ }
-{
-    let low = byte(s, i);
-    let high = byte(s, i + 1);
-    low + 256 * high
-}
-
 // The mark whose two bytes are this number, the first one high.
 fn listed(code: u16) -> Found
     ensures { λ r. ⌜ found r ≡ markCoded code ⌝ }
@@ -120,24 +97,9 @@ fn mark_at(s: &[u8], i: usize) -> Found
     requires { ⌜ i + 2 ≤ length (now s) ⌝ }
     ensures { λ r. ⌜ found r ≡ markAt (now (s .entry)) i ⌝ }
 {
-    listed(byte(s, i) * 256 + byte(s, i + 1))
-}
-
-// The fields of the TK at i.
-fn task_at(s: &[u8], i: usize) -> Task
-    requires { ⌜ i + size TK ≤ length (now s) ⌝ }
-    ensures { λ r. ⌜ tk (taskOf r) ≡ recordAt TK (now (s .entry)) i ⌝ }
-{
-    let offset = field(s, i + 2);
-    let cost = field(s, i + 4);
-    let due = field(s, i + 6);
-    let period = field(s, i + 8);
-    Task {
-        offset,
-        cost,
-        due,
-        period,
-    }
+    let high = place::byte(s, i) as u16;
+    let low = place::byte(s, i + 1) as u16;
+    listed(high * 256 + low)
 }
 
 // The fields of the SW at i.
@@ -145,8 +107,8 @@ fn switch_at(s: &[u8], i: usize) -> Switch
     requires { ⌜ i + size SW ≤ length (now s) ⌝ }
     ensures { λ r. ⌜ sw (switchOf r) ≡ recordAt SW (now (s .entry)) i ⌝ }
 {
-    let target = field(s, i + 2);
-    let period = field(s, i + 4);
+    let target = place::field(s, i + 2);
+    let period = place::field(s, i + 4);
     Switch { target, period }
 }
 
@@ -322,7 +284,7 @@ impl Sheet {
         ensures { λ r. ⌜ Judges HZ (now (s .entry)) self r ⌝ }
     {
         let at = self.at;
-        let horizon = field(s, at + 2);
+        let horizon = place::field(s, at + 2);
         if !is_between(1, Self::MAX_HORIZON, horizon) {
             return self.refused(BAD_FIELD, at);
         }
@@ -338,7 +300,7 @@ impl Sheet {
         if Self::MAX_MODULES <= self.modules {
             return self.refused(PAST_COUNT, at);
         }
-        let stated = field(s, at + 2);
+        let stated = place::field(s, at + 2);
         if !is_between(1, Self::MAX_MODES, stated) {
             return self.refused(BAD_FIELD, at);
         }
@@ -353,7 +315,7 @@ impl Sheet {
         ensures { λ r. ⌜ Judges MD (now (s .entry)) self r ⌝ }
     {
         let at = self.at;
-        let period = field(s, at + 2);
+        let period = place::field(s, at + 2);
         if !is_between(1, Self::MAX_MODE_PERIOD, period) {
             return self.refused(BAD_FIELD, at);
         }
@@ -377,7 +339,7 @@ impl Sheet {
         if Self::MAX_TASKS <= self.tasks {
             return self.refused(PAST_COUNT, at);
         }
-        let k = task_at(s, at);
+        let k = place::task_at(s, at);
         if !task_keeps(self.period, k) {
             return self.refused(BAD_FIELD, at);
         }
@@ -450,7 +412,7 @@ impl Sheet {
         ensures { λ r. ⌜ Judges EN (now (s .entry)) self r ⌝ }
     {
         let at = self.at;
-        let before = field(s, at + 2);
+        let before = place::field(s, at + 2);
         if before != self.records {
             return self.refused(BAD_END, at);
         }

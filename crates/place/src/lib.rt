@@ -1,21 +1,14 @@
-// Where the modules and modes of an accepted sheet stand in its bytes, and what is read there.
+// Reads the bytes of a sheet: fields and tasks at a place, and where the modules and modes of an accepted sheet stand.
 ghost use mathlib.Core.Path.{_≡_};
 ghost use Prim.Native.Nat.{ℕ, _+_, _*_, _<_, _≤_};
 ghost use lib.ListN.{length, getD};
 ghost use Rattle.model.specs.Sheet.{moduleAt};
 ghost use Rattle.model.specs.Run.{modeAt};
-ghost use Rattle.format.specs.Record.{fieldAt};
+ghost use Rattle.format.specs.Record.{TK, tk, size, fieldAt, recordAt};
 ghost use Rattle.format.specs.Judgement.{sheetIn, Accepted};
 ghost use Rattle.format.specs.Place.{modulePlace, modePlace};
+ghost use Rattle.place.specs.Numbers.{taskOf};
 ghost use Rattle.place.specs.There.{ModuleThere, ModesThere, ModeThere, SomeModule, SomeModes, SomeMode};
-
-/// The field at the place i: 16 bits, low byte first.
-pub fn field(sheet: &[u8], i: usize) -> u16
-    requires { ⌜ i + 2 ≤ length (now sheet) ⌝ }
-    ensures { λ r. ⌜ r ≡ fieldAt (now (sheet .entry)) i ⌝ }
-{
-    sheet[i] as u16 + 256 * (sheet[i + 1] as u16)
-}
 
 /// The byte at the place i.
 pub fn byte(sheet: &[u8], i: usize) -> u8
@@ -23,6 +16,37 @@ pub fn byte(sheet: &[u8], i: usize) -> u8
     ensures { λ r. ⌜ r ≡ getD (now (sheet .entry)) i 0 ⌝ }
 {
     sheet[i]
+}
+
+/// The field at the place i: 16 bits, low byte first.
+pub fn field(sheet: &[u8], i: usize) -> u16
+    requires { ⌜ i + 2 ≤ length (now sheet) ⌝ }
+    ensures { λ r. ⌜ r ≡ fieldAt (now (sheet .entry)) i ⌝ }
+{
+    let low = byte(sheet, i) as u16;
+    let high = byte(sheet, i + 1) as u16;
+    low + 256 * high
+}
+
+/// The numbers of a task; LET is called due.
+pub struct Task {
+    pub offset: u16,
+    pub cost: u16,
+    pub due: u16,
+    pub period: u16,
+}
+
+/// The fields of the TK at i.
+pub fn task_at(sheet: &[u8], i: usize) -> Task
+    requires { ⌜ i + size TK ≤ length (now sheet) ⌝ }
+    ensures { λ r. ⌜ tk (taskOf r) ≡ recordAt TK (now (sheet .entry)) i ⌝ }
+{
+    Task {
+        offset: field(sheet, i + 2),
+        cost: field(sheet, i + 4),
+        due: field(sheet, i + 6),
+        period: field(sheet, i + 8),
+    }
 }
 
 /// How many tasks the mode at p has: no other record's mark begins with T.

@@ -1,7 +1,7 @@
--- A call whose terms are met is given its figure; a sheet's fault goes before 9, and 9 before 10. And laws of memory of which only the first
--- numbers may differ. Assumes nothing.
+-- A call whose terms are met is given its figure, and one that is refused is answered so; a sheet's fault goes before 9, and 9 before 10. And laws of memory of
+-- which only the first numbers may differ. Assumes nothing.
 use mathlib.Core.Path.{_≡_, refl, sym, _∙_, ap}
-use mathlib.Core.Bool.{true, false}
+use mathlib.Core.Bool.{Bool, true, false, cond}
 use mathlib.Core.List.{List}
 use Prim.Native.Nat.{ℕ, _+_, _≤_}
 use native.Mathlib.Omega.{arith}
@@ -9,7 +9,7 @@ use lib.ListN.{length, getD, drop, length-drop}
 use lib.Seq.{getD-drop, ext-getD}
 use Rattle.model.specs.Sheet.{Sheet}
 use Rattle.format.specs.Judgement.{Judgement, judgement, sheetIn, Accepted}
-use Rattle.query.specs.Answer.{given, Terms, answerOf, answer, Meets, RefusedWith}
+use Rattle.query.specs.Answer.{refused, given, Terms, GivenBy, AnsweredBy, Answered, answerOf, answer, Meets, RefusedWith}
 use Rattle.query.specs.Memory.{Stays}
 
 module _ {A : Type 0} (t : Terms) (bytes : List ℕ) where
@@ -28,6 +28,25 @@ module _ {A : Type 0} (t : Terms) (bytes : List ℕ) where
   pub memory-refused : Accepted bytes → t .inRange (sheetIn bytes) ≡ true → t .enough (sheetIn bytes) ≡ false → RefusedWith A t bytes 10 0
   unfolding answer
   memory-refused accepted in-range short f = ap (answerOf t f) accepted ∙ rw (in-range, short)
+
+-- What a call is answered whose terms are met, or which is refused.
+module _ {A : Type 0} (t : Terms) (R : Sheet → A → Type 0) (bytes : List ℕ) where
+  pub met-answered : Meets t bytes → (v : A) → R (sheetIn bytes) v → Answered t R bytes (given v)
+  met-answered met v h = rw (met .accepted, met .in-range, met .enough) (v, refl, h)
+
+  pub refused-answered : {n p : ℕ} → RefusedWith A t bytes n p → (Sheet → A) → Answered t R bytes (refused n p)
+  unfolding answer
+  refused-answered {n} {p} says f = judged (judgement bytes) (says f)
+    where
+      tests : (i e : Bool) (s : Sheet) → cond i (cond e (given (f s)) (refused 10 0)) (refused 9 0) ≡ refused n p → GivenBy i e (R s) (refused n p)
+      tests true true s q = let z : _≡_ {A = ℕ} 0 1 = cc in absurd (omega arith)
+      tests true false s q = sym q
+      tests false true s q = sym q
+      tests false false s q = sym q
+
+      judged : (j : Judgement) → answerOf t f j ≡ refused n p → AnsweredBy t R j (refused n p)
+      judged (Judgement.refused m o) q = sym q
+      judged (Judgement.accepted s) q = tests (t .inRange s) (t .enough s) s q
 
 -- Memory that stays.
 

@@ -1,4 +1,4 @@
--- What the tests before the quick test say of a call, and that the verdict or the refusal that it then has is its answer. Assumes nothing.
+-- What the tests before the quick test say of a call, and that the verdict that it then has is its answer. Assumes nothing.
 use mathlib.Core.Path.{_≡_, sym, _∙_, ap, subst}
 use mathlib.Core.List.{List}
 use Prim.Native.Nat.{ℕ, _≤_}
@@ -11,15 +11,14 @@ use Rattle.format.specs.Judgement.{sheetIn}
 use Rattle.format.proofs.RoundTrip.{accepted-wellFormed}
 use Rattle.sums.specs.declared.Over.{Over}
 use Rattle.sums.specs.Sums.{quickOf}
-use Rattle.query.specs.Answer.{Terms, refused, given}
+use Rattle.query.specs.Answer.{Terms, given}
 use Rattle.query.specs.Query.{quickTerms, QuickAnswer}
 use Rattle.query.proofs.Answers.{quick-answer}
 use Rattle.query.proofs.Meeting.{met-given, stays-by}
 use Rattle.quick.specs.declared.Quick.{Quick}
 use Rattle.quick.specs.Quick.{answerOf, QuickTested}
 use Rattle.quick.specs.Sums.{Found}
-use Rattle.quick.specs.Asking.{Asks, Sound}
-use Rattle.quick.specs.declared.Asked.the-variants as asked
+use Rattle.quick.specs.Asking.{Sound}
 use Rattle.quick.proofs.Pieces.{found-all}
 
 -- What a sound call has: memory enough, and no length past the row of sums.
@@ -39,6 +38,3 @@ module _ (bytes w w′ : List ℕ) where
         answer = subst (QuickAnswer bytes (length w)) (met-given (quickTerms (length w)) bytes (sound .met) quick ∙ sym is) (quick-answer bytes (length w));
         memory = rw is (stays-by workNumbers w w′ (found .len) (found .above));
       }
-
-pub quick-is-refused : (bytes : List ℕ) (work : ℕ) {n p : ℕ} → Asks (quickTerms work) bytes (asked.Refused n p) → QuickAnswer bytes work (refused n p)
-quick-is-refused bytes work asks = subst (QuickAnswer bytes work) (asks quick) (quick-answer bytes work)

@@ -1,6 +1,6 @@
 -- What the tests before a report say of a call, and that the lines or the refusal that it then has are its answer. Assumes nothing.
 use mathlib.Core.Path.{_≡_, refl, sym, _∙_, ap}
-use mathlib.Core.Bool.{Bool, true, false, cond, _&&_, and-eq-true-iff}
+use mathlib.Core.Bool.{Bool, true, false, _&&_, and-eq-true-iff}
 use mathlib.Core.List.{List, [], _++_, append-nil}
 use Prim.Native.Nat.{ℕ, _*_, _≤_}
 use native.Mathlib.Omega.{arith}
@@ -11,14 +11,14 @@ use Rattle.model.specs.Sheet.{Sheet}
 use Rattle.model.specs.Limits.{workNumbers}
 use Rattle.model.specs.Verdict as Verdict
 use Rattle.model.proofs.Tapes.{tapes-are}
-use Rattle.format.specs.Judgement.{Judgement, judgement, sheetIn}
+use Rattle.format.specs.Judgement.{sheetIn}
 use Rattle.format.proofs.RoundTrip.{accepted-wellFormed}
 use Rattle.judge.proofs.JudgedLaws.{AcceptedWith}
-use Rattle.query.specs.Answer.{Answer, refused, given, Terms, GivenBy, AnsweredBy, Answered, answerOf, answer, Meets, RefusedWith}
+use Rattle.query.specs.Answer.{Answer, refused, given, Meets, RefusedWith}
 use Rattle.query.specs.Query.{Witnessed, quickTerms, exactTerms, tapesFor, witnessed}
 use Rattle.query.specs.Memory.{Stays}
 use Rattle.query.proofs.Answers.{quick-answer, quick-answer-unique, exact-answer, exact-answer-unique}
-use Rattle.query.proofs.Meeting.{met-given, memory-refused, stays-more}
+use Rattle.query.proofs.Meeting.{met-given, memory-refused, met-answered, stays-more}
 use Rattle.lines.specs.Lines.{quickLine, exactLine, runLines, witnessLines, sheetLines, sheetLineOf}
 use Rattle.writing.specs.Writing.{Put}
 use Rattle.writing.proofs.Writing.{put-more, put-two}
@@ -117,25 +117,6 @@ module _ {bytes w w′ t t′ : List ℕ} {x : Exact} where
 pub clear-lines : witnessedLines (record { verdict = Verdict.Exact.clear; tapes = [] }) ≡ exactLine Verdict.Exact.clear
 unfolding runLines
 clear-lines = append-nil (exactLine Verdict.Exact.clear)
-
--- What a call is answered whose terms are met, or which is refused.
-module _ {A : Type 0} (t : Terms) (R : Sheet → A → Type 0) (bytes : List ℕ) where
-  met-answered : Meets t bytes → (v : A) → R (sheetIn bytes) v → Answered t R bytes (given v)
-  met-answered met v h = rw (met .accepted, met .in-range, met .enough) (v, refl, h)
-
-  pub refused-answered : {n p : ℕ} → RefusedWith A t bytes n p → (Sheet → A) → Answered t R bytes (refused n p)
-  unfolding answer
-  refused-answered {n} {p} says f = judged (judgement bytes) (says f)
-    where
-      tests : (i e : Bool) (s : Sheet) → cond i (cond e (given (f s)) (refused 10 0)) (refused 9 0) ≡ refused n p → GivenBy i e (R s) (refused n p)
-      tests true true s q = let z : _≡_ {A = ℕ} 0 1 = cc in absurd (omega arith)
-      tests true false s q = sym q
-      tests false true s q = sym q
-      tests false false s q = sym q
-
-      judged : (j : Judgement) → answerOf t f j ≡ refused n p → AnsweredBy t R j (refused n p)
-      judged (Judgement.refused m o) q = sym q
-      judged (Judgement.accepted s) q = tests (t .inRange s) (t .enough s) s q
 
 -- The parts of a report.
 module _ {bytes w u w′ t t′ o o1 o2 o′ : List ℕ} {modules modes tasks switches horizon head next count : ℕ}

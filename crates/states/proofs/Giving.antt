@@ -1,5 +1,5 @@
--- What a call learns where its terms are met, and that the figure or the refusal that it then has is its answer. Assumes nothing.
-use mathlib.Core.Path.{_≡_, refl, sym, _∙_, ap, subst}
+-- What a call learns where its terms are met, and that the figure that it then has is its answer. Assumes nothing.
+use mathlib.Core.Path.{_≡_, sym, _∙_, ap, subst}
 use mathlib.Core.Bool.{and-eq-true-iff}
 use mathlib.Core.List.{List}
 use Prim.Native.Nat.{ℕ, _-_, _≤_, _<_}
@@ -8,19 +8,17 @@ use lib.ListN.{length, drop}
 use lib.Seq.{drop-drop}
 use borrow.Author.Tests.{ltb-true, leb-true}
 use borrow.Rule.Slice.PartMut.{putMid, midOf, mid-len, same-len-mid, drop-put}
-use Rattle.model.specs.Sheet.{Sheet, moduleAt}
+use Rattle.model.specs.Sheet.{moduleAt}
 use Rattle.model.specs.Limits.{maxHorizon, maxModules, workNumbers}
 use Rattle.model.specs.Run.{at, modeAt}
 use Rattle.model.specs.Demand.{value, moduleDemand}
 use Rattle.format.specs.Judgement.{sheetIn, Accepted}
 use Rattle.format.proofs.RoundTrip.{accepted-wellFormed}
-use Rattle.query.specs.Answer.{Meets, refused, given}
+use Rattle.query.specs.Answer.{Meets, given}
 use Rattle.query.specs.Query.{stateTerms, moduleTerms, StateAnswer, ModuleAnswer}
 use Rattle.query.specs.Memory.{Stays}
 use Rattle.query.proofs.Answers.{state-answer, module-answer}
 use Rattle.query.proofs.Meeting.{met-given}
-use Rattle.states.specs.Asking.{Asks}
-use Rattle.states.specs.declared.Asked.the-variants as asked
 
 -- no more modules than rows, and no length past the layers
 pub few-modules : (bytes : List ℕ) → Accepted bytes → length (sheetIn bytes .modules) ≤ maxModules
@@ -53,9 +51,6 @@ module _ (bytes : List ℕ) (k m d L work : ℕ) where
   pub state-is : {v : ℕ} → Meets (stateTerms k m d L work) bytes → v ≡ value (moduleAt (sheetIn bytes) k) 0 L (at m d) → StateAnswer bytes k m d L work (given v)
   state-is {v} met e = subst (StateAnswer bytes k m d L work) (met-given (stateTerms k m d L work) bytes met _ ∙ ap given (sym e)) (state-answer bytes k m d L work)
 
-  pub state-is-refused : {n p : ℕ} → Asks (stateTerms k m d L work) bytes (asked.Refused n p) → StateAnswer bytes k m d L work (refused n p)
-  state-is-refused asks = subst (StateAnswer bytes k m d L work) (asks _) (state-answer bytes k m d L work)
-
 -- The module demand.
 module _ (bytes : List ℕ) (k L work : ℕ) where
   pub record InModule : Type 0 where
@@ -71,9 +66,6 @@ module _ (bytes : List ℕ) (k L work : ℕ) where
 
   pub module-is : {v : ℕ} → Meets (moduleTerms k L work) bytes → v ≡ moduleDemand (moduleAt (sheetIn bytes) k) L → ModuleAnswer bytes k L work (given v)
   module-is {v} met e = subst (ModuleAnswer bytes k L work) (met-given (moduleTerms k L work) bytes met _ ∙ ap given (sym e)) (module-answer bytes k L work)
-
-  pub module-is-refused : {n p : ℕ} → Asks (moduleTerms k L work) bytes (asked.Refused n p) → ModuleAnswer bytes k L work (refused n p)
-  module-is-refused asks = subst (ModuleAnswer bytes k L work) (asks _) (module-answer bytes k L work)
 
 -- The lent memory with another layer in its first part.
 pub stays-layer : (w ys : List ℕ) → workNumbers ≤ length w → length ys ≡ length (midOf 0 (8192 - 0) w) → Stays workNumbers w (putMid 0 (8192 - 0) w ys)

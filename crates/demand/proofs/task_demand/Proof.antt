@@ -1,7 +1,7 @@
 -- The instances, each at the cost of the task. Assumes nothing.
 use native.Mathlib.Omega.{arith}
 use borrow.Author.Needs.{needs}
-use Rattle.demand.specs.Counted.{taskOf}
+use Rattle.place.specs.Numbers.{taskOf}
 use Rattle.demand.proofs.Tasks.{task-counted}
 use Rattle.demand.proofs.task_demand.Statement.{statement}
 use Rattle.demand.proofs.task_demand.Tie as tie

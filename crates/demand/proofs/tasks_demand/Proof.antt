@@ -4,7 +4,7 @@ use Prim.Native.Nat.{ℕ, _-_}
 use native.Mathlib.Omega.{arith}
 use borrow.Author.Needs.{needs}
 use Rattle.place.proofs.Counting.{are-bytes}
-use Rattle.demand.specs.Counted.{taskOf}
+use Rattle.place.specs.Numbers.{taskOf}
 use Rattle.demand.proofs.Tasks.{Summed, task-within, task-countable, summed-none, sum-fits, summed-more, summed-all}
 use Rattle.demand.proofs.tasks_demand.Statement.{statement}
 use Rattle.demand.proofs.tasks_demand.Tie as tie

@@ -1,6 +1,6 @@
 -- A call that is refused leaves both memories as they came; any other is given the verdict and its tapes. Assumes nothing.
-use Rattle.exact.proofs.Giving.{exact-is-refused}
-use Rattle.query.proofs.Meeting.{stays-untouched}
+use Rattle.query.specs.Query.{exactTerms, WitnessedIs, witnessed}
+use Rattle.query.proofs.Meeting.{refused-answered, stays-untouched}
 use denote.Ref.{now}
 use lib.ListN.{length}
 use borrow.Author.Needs.{needs}
@@ -23,7 +23,7 @@ returns : tie.Need-returns
 returns c =
     let a = c .before .before .before .before .before .before .before .args in
     record {
-      answer = exact-is-refused (now (a .sheet)) (length (now (a .work))) (length (now (a .tape))) (rw (c .before .asked .given .1) at (c .before .before .before .exact-asked .ensures));
+      answer = refused-answered (exactTerms (length (now (a .work))) (length (now (a .tape)))) WitnessedIs (now (a .sheet)) (rw (c .before .asked .given .1) at (c .before .before .before .exact-asked .ensures)) witnessed;
       memory = stays-untouched _ (now (a .work));
       tape = stays-untouched _ (now (a .tape));
     }

@@ -2,8 +2,9 @@
 use lib.ListN.{length}
 use denote.Ref.{now}
 use borrow.Author.Needs.{needs}
-use Rattle.query.proofs.Meeting.{stays-untouched}
-use Rattle.quick.proofs.Giving.{quick-is-refused}
+use Rattle.model.specs.Verdict.{QuickIs, quick}
+use Rattle.query.specs.Query.{quickTerms}
+use Rattle.query.proofs.Meeting.{refused-answered, stays-untouched}
 use Rattle.quick.proofs.quick_test.Statement.{statement}
 use Rattle.quick.proofs.quick_test.Tie as tie
 
@@ -23,7 +24,7 @@ returns : tie.Need-returns
 returns c =
     let a = c .before .before .before .before .before .before .args in
     record {
-      answer = quick-is-refused (now (a .sheet)) (length (now (a .work))) (rw (c .before .asked .given .1) at (c .before .before .before .quick-asked .ensures));
+      answer = refused-answered (quickTerms (length (now (a .work)))) QuickIs (now (a .sheet)) (rw (c .before .asked .given .1) at (c .before .before .before .quick-asked .ensures)) quick;
       memory = stays-untouched _ (now (a .work));
     }
 

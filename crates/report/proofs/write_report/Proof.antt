@@ -4,9 +4,8 @@ use lib.ListN.{length}
 use denote.Ref.{now}
 use borrow.Author.Needs.{needs}
 use Rattle.model.specs.Sheet.{Sheet}
-use Rattle.query.proofs.Meeting.{stays-untouched}
+use Rattle.query.proofs.Meeting.{refused-answered, stays-untouched}
 use Rattle.report.specs.Report.{reportTerms, Lines}
-use Rattle.report.proofs.Giving.{refused-answered}
 use Rattle.report.proofs.write_report.Statement.{statement}
 use Rattle.report.proofs.write_report.Tie as tie
 

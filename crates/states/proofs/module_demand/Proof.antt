@@ -1,9 +1,12 @@
 -- A call that is refused leaves the lent memory as it came; any other is given the module demand. Assumes nothing.
+use Prim.Native.Nat.{ℕ}
 use lib.ListN.{length}
 use denote.Ref.{now}
 use borrow.Author.Needs.{needs}
-use Rattle.states.proofs.Giving.{module-is-refused}
-use Rattle.query.proofs.Meeting.{stays-untouched}
+use Rattle.model.specs.Sheet.{Sheet, moduleAt}
+use Rattle.model.specs.Demand.{ModuleDemand}
+use Rattle.query.specs.Query.{moduleTerms}
+use Rattle.query.proofs.Meeting.{refused-answered, stays-untouched}
 use Rattle.states.proofs.module_demand.Statement.{statement}
 use Rattle.states.proofs.module_demand.Tie as tie
 
@@ -17,7 +20,9 @@ returns : tie.Need-returns
 returns c =
     let a = c .before .before .before .before .before .before .args in
     record {
-      answer = module-is-refused (now (a .sheet)) (a .«module») (a .length) (length (now (a .work))) (rw (c .before .asked .given .1) at (c .before .before .before .module-asked .ensures));
+      answer =
+          refused-answered (moduleTerms (a .«module») (a .length) (length (now (a .work)))) (λ (s : Sheet) (v : ℕ). ModuleDemand (moduleAt s (a .«module»)) (a .length) v)
+          (now (a .sheet)) (rw (c .before .asked .given .1) at (c .before .before .before .module-asked .ensures)) (λ s. 0);
       memory = stays-untouched _ (now (a .work));
     }
 

@@ -1,9 +1,13 @@
 -- A call that is refused leaves the lent memory as it came; any other is given the state demand. Assumes nothing.
+use Prim.Native.Nat.{ℕ}
 use lib.ListN.{length}
 use denote.Ref.{now}
 use borrow.Author.Needs.{needs}
-use Rattle.states.proofs.Giving.{state-is-refused}
-use Rattle.query.proofs.Meeting.{stays-untouched}
+use Rattle.model.specs.Sheet.{Sheet, moduleAt}
+use Rattle.model.specs.Run.{at}
+use Rattle.model.specs.Demand.{StateDemand}
+use Rattle.query.specs.Query.{stateTerms}
+use Rattle.query.proofs.Meeting.{refused-answered, stays-untouched}
 use Rattle.states.proofs.state_demand.Statement.{statement}
 use Rattle.states.proofs.state_demand.Tie as tie
 
@@ -17,7 +21,9 @@ returns : tie.Need-returns
 returns c =
     let a = c .before .before .before .before .before .before .args in
     record {
-      answer = state-is-refused (now (a .sheet)) (a .«module») (a .mode) (a .time) (a .length) (length (now (a .work))) (rw (c .before .asked .given .1) at (c .before .before .before .state-asked .ensures));
+      answer =
+          refused-answered (stateTerms (a .«module») (a .mode) (a .time) (a .length) (length (now (a .work)))) (λ (s : Sheet) (v : ℕ). StateDemand (moduleAt s (a .«module»)) (at (a .mode) (a .time)) (a .length) v)
+          (now (a .sheet)) (rw (c .before .asked .given .1) at (c .before .before .before .state-asked .ensures)) (λ s. 0);
       memory = stays-untouched _ (now (a .work));
     }
 

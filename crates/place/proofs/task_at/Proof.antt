@@ -1,7 +1,7 @@
--- The four fields of TK at q. Assumes nothing.
+-- `task_at` is the task that is read at its place. Assumes nothing.
 use borrow.Author.Needs.{needs}
-use Rattle.demand.proofs.task_at.Statement.{statement}
-use Rattle.demand.proofs.task_at.Tie as tie
+use Rattle.place.proofs.task_at.Statement.{statement}
+use Rattle.place.proofs.task_at.Tie as tie
 
 add-field : tie.Need-add-field
 add-field c = search needs
