@@ -1,5 +1,5 @@
 -- A bound for n ticks, with all offers of the layer for n + 1 ticks, is one for n + 1; and what a module has come to with one tick more. Assumes nothing.
-use mathlib.Core.Path.{_≡_, sym, _∙_, subst}
+use mathlib.Core.Path.{_≡_, sym, subst}
 use mathlib.Core.Logic.{⊎-elim}
 use mathlib.Core.List.{List}
 use Prim.Native.Nat.{ℕ, suc, pred, _+_, _-_, _*_, _≤_, _<_}
@@ -16,15 +16,14 @@ use Rattle.model.proofs.Bounds.{value-bound}
 use Rattle.layers.specs.declared.Shape.{Shape}
 use Rattle.layers.specs.Layer.{Layer, Told, Each, Advanced}
 use Rattle.sums.specs.Sums.{layerPart}
-use Rattle.sums.proofs.Sums.{part-size}
 use Rattle.entries.proofs.Reaches.{reach-listed}
 use Rattle.entries.proofs.Figures.{figure-end, figure-step}
 use Rattle.marks.specs.Marks.{Marks}
 use Rattle.figures.specs.Offers.{Below, ShapeOffer}
 use Rattle.figures.proofs.Tiles.{offer-reached, reached-offer}
 use Rattle.tiles.specs.Tiles.{marksPart, Within, Begun}
-use Rattle.tiles.proofs.Parts.{part-behind, put-within}
-use Rattle.tiles.proofs.Steps.{next-layer}
+use Rattle.tiles.proofs.Parts.{part-behind}
+use Rattle.tiles.proofs.Steps.{advancing, next-layer, next-marks}
 use Rattle.bounds.specs.Tops.{Topped}
 use Rattle.bounds.specs.Bounds.{Bound, Progress, Progressed}
 use Rattle.bounds.proofs.Tops.{top-keeps, top-offered, top-only}
@@ -72,15 +71,12 @@ module _ (s : Shape) (numbers : List ℕ) (n : ℕ) (w ys : List ℕ) (room : 16
 
   pub progressed : (lo width g r : ℕ) → Each s numbers (λ m. Progress m lo width n w g)
       → Topped (Below (ShapeOffer s numbers (layerPart w′) (marksPart w′) lo (n + 1)) (s .modes)) width g r → Progressed s numbers lo width (n + 1) r w w′
-  progressed lo width g r before t = record { within = advancing; each = each }
+  progressed lo width g r before t = record { within = advancing s numbers n w ys room advanced; each = each }
     where
-      advancing : Within 2001 10193 w w′
-      advancing = put-within 2001 8192 w ys (omega arith) (advanced .len ∙ part-size w room)
-
       each : Each s numbers (λ m. Progress m lo width (n + 1) w′ r)
       each m ok told =
           let layer = next-layer s numbers n w ys room advanced (λ m ok told. before m ok told .layer) m ok told in
-          let marks = subst (Marks m (pred (lo + width))) (sym (part-behind advancing 10193 504 (omega arith))) (before m ok told .marks) in
+          let marks = next-marks s numbers n w ys room advanced m (pred (lo + width)) (before m ok told .marks) in
           let most : lo + width ≤ pred (lo + width) + 1 = omega arith in
           record {
             layer = layer;

@@ -18,7 +18,7 @@ use Rattle.quick.proofs.Summing.{sum-more}
 use Rattle.bounds.specs.Bounds.{ModuleAdded, SumsBounded}
 
 -- what a number that no module has names
-abbrev absent : Module
+abbrev pub absent : Module
 absent = record { modes = [] }
 
 -- no sum over the first k modules exceeds the number at its length, which is at most 32,000 for each of them

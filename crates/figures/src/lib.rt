@@ -1,7 +1,7 @@
 // The figures of a module: for each end of a tile the largest demand in so many ticks before it over runs from tick 0, one length after the other.
 ghost use mathlib.Core.Path.{_≡_};
 ghost use mathlib.Core.Bool.{false};
-ghost use Prim.Native.Nat.{ℕ, _+_, _-_, _*_, _/_, _^_, _<_, _≤_, min};
+ghost use Prim.Native.Nat.{ℕ, _+_, _-_, _*_, _/_, _^_, _<_, _≤_};
 ghost use lib.ListN.{length};
 ghost use Rattle.layers.specs.Step.{look, total, period, TasksReady, ModeReady};
 ghost use Rattle.layers.specs.Layer.{IsLayer};
@@ -10,12 +10,7 @@ ghost use Rattle.figures.specs.Figures.{Grown, Added};
 ghost use Rattle.figures.specs.Offers.{Raised, TickOffer, TimeOffer, TaskOffer, ModeOffer, ShapeOffer, Quiet, Room};
 use layers::Shape;
 use layers::larger;
-
-fn smaller(a: usize, b: usize) -> usize
-    ensures { λ r. ⌜ r ≡ min a b ⌝ }
-{
-    if a < b { a } else { b }
-}
+use marks::smaller;
 
 // a less b, and 0 where b is more.
 pub fn less(a: usize, b: usize) -> usize

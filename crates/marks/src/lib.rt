@@ -16,7 +16,7 @@ pub fn is_marked(bits: &[u32], k: usize, t: usize) -> bool
     (bits[63 * k + t / 32] >> (t % 32)) % 2 == 1
 }
 
-fn lesser(a: usize, b: usize) -> usize
+pub fn smaller(a: usize, b: usize) -> usize
     ensures { λ r. ⌜ r ≡ min a b ⌝ }
 {
     if a < b { a } else { b }
@@ -60,7 +60,7 @@ fn mark_switch(bits: &mut [u32], horizon: usize, t: usize, p: u16, q: u16, k: us
     ensures { λ _. ⌜ Marking (λ i x. (i ≡ j) × (x ≤ horizon) × (Stride p q t x)) (now (bits .entry)) (now (bits .exit)) ⌝ }
 {
     let step = q as usize;
-    let n = lesser(horizon - t, p as usize) / step;
+    let n = smaller(horizon - t, p as usize) / step;
     let mut i = first_stride(bits, t, step, k, n);
     while i <= n {
         mark(bits, j, t + i * step);

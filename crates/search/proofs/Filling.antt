@@ -1,10 +1,10 @@
 -- The cells of a tile as the modules' figures are added, one module after another. Assumes nothing.
 use mathlib.Core.Path.{_≡_, sym, _∙_}
-use mathlib.Core.List.{List, []}
+use mathlib.Core.List.{List}
 use Prim.Native.Nat.{ℕ, pred, _+_, _-_, _≤_, _<_}
 use native.Mathlib.Omega.{arith}
 use lib.ListN.{length}
-use Rattle.model.specs.Sheet.{Module, Sheet, moduleAt}
+use Rattle.model.specs.Sheet.{Sheet, moduleAt}
 use Rattle.model.specs.Limits.{workNumbers}
 use Rattle.model.specs.WellFormed.{ModuleRule, WellFormed}
 use Rattle.model.specs.Run.{first}
@@ -20,12 +20,9 @@ use Rattle.cells.proofs.Rows.{row-inside}
 use Rattle.tiles.specs.Tiles.{CellsFit, ModuleAdded}
 use Rattle.tiles.proofs.Rows.{question-same, cell-same}
 use Rattle.tiles.proofs.Parts.{within-none, within-wider, within-then}
+use Rattle.bounds.proofs.Summing.{absent}
 use Rattle.search.specs.Search.{Kept, CellsOf, Filled}
 use Rattle.search.proofs.Keeping.{same}
-
--- what a number that no module has names
-abbrev absent : Module
-absent = record { modes = [] }
 
 pub kept-by-clearing : {w w′ : List ℕ} → CellsCleared w w′ → Kept w w′
 kept-by-clearing c = record { len = c .len; below = λ x h. c .others x (omega arith); above = c .above }

@@ -14,7 +14,7 @@ use Rattle.model.specs.Demand.{value}
 use Rattle.layers.specs.declared.Shape.{Shape}
 use Rattle.layers.specs.Step.{look}
 use Rattle.layers.specs.Layer.{Tells, Each}
-use Rattle.layers.proofs.Parts.{part-length}
+use Rattle.layers.proofs.Parts.{part-length, part-look, back-here}
 use Rattle.figures.specs.Figures.{Added}
 use Rattle.figures.proofs.Offered.{not-both}
 use Rattle.figures.proofs.Tiles.{figures-bound}
@@ -22,7 +22,7 @@ use Rattle.cells.specs.Cells.{layerFrom, cellsFrom, inQuestion, Longest, rows, 
 use Rattle.tiles.specs.Tiles.{Within, Progressed, RowFits, RowAdded, CellsFit, ModuleAdded}
 use Rattle.cells.proofs.Rows.{rows-more, rows-grow}
 use Rattle.tiles.proofs.Rows.{question-same, rows-same, cell-same, cell-before}
-use Rattle.tiles.proofs.Parts.{part-look, within-none, within-wider, within-then, put-within, put-part}
+use Rattle.tiles.proofs.Parts.{within-none, within-wider, within-then, put-within}
 
 -- One row.
 
@@ -40,7 +40,7 @@ module _ (fig w : List ℕ) (row : ℕ) where
     pub row-low : (i : ℕ) → i < length fig → look (midOf from (from + length fig - from) w) i + look fig i < 2 ^ 32
     row-low i h =
         let place : from + i ≡ cellsFrom + (row * length fig + i) = omega arith in
-        rw (part-look from (from + length fig - from) w i (omega arith), place) (fits .low i h)
+        rw (part-look w from (length fig) room i h, place) (fits .low i h)
 
     pub row-some : (L : ℕ) → L < look w L → (ys : List ℕ) → Added (length fig) fig (midOf from (from + length fig - from) w) ys
         → RowAdded fig L row (row + 1) w (putMid from (from + length fig - from) w ys)
@@ -60,8 +60,7 @@ module _ (fig w : List ℕ) (row : ℕ) where
         cells i l =
             let place : cellsFrom + (row * length fig + i) ≡ from + i = omega arith in
             rw place
-            (sym (part-look from (length fig) w′ i l) ∙ ap (λ (u : List ℕ). look u i) (put-part from (length fig) w ys room size) ∙ added .each i l
-            ∙ ap (λ (v : ℕ). v + look fig i) (part-look from (from + length fig - from) w i (omega arith)))
+            (back-here w from (length fig) room ys size i l ∙ added .each i l ∙ ap (λ (v : ℕ). v + look fig i) (part-look w from (length fig) room i l))
 
 -- One length after another.
 

@@ -14,6 +14,7 @@ use Rattle.tiles.specs.Tiles.{Within}
 abbrev part : ℕ → ℕ → List ℕ → List ℕ
 part a p w = take p (drop a w)
 
+-- however long the memory is
 pub part-look : (a p : ℕ) (w : List ℕ) (d : ℕ) → d < p → look (part a p w) d ≡ look w (a + d)
 part-look a p w d h = getD-take p (drop a w) d 0 h ∙ getD-drop a w d 0
 

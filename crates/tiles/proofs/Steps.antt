@@ -72,11 +72,14 @@ module _ (s : Shape) (numbers : List ℕ) (l : ℕ) (w ys : List ℕ) (room : 16
   abbrev w′ : List ℕ
   w′ = putMid 2001 8192 w ys
 
-  advancing : Within 2001 10193 w w′
+  pub advancing : Within 2001 10193 w w′
   advancing = put-within 2001 8192 w ys (omega arith) size
 
   pub next-layer : Layered s numbers l (layerPart w) → Layered s numbers (l + 1) (layerPart w′)
   next-layer layer m ok told = subst (Layer m (l + 1)) (sym (put-part 2001 8192 w ys (omega arith) size)) (layered-more s numbers l (layerPart w) ys advanced layer m ok told)
+
+  pub next-marks : (m : Module) (last : ℕ) → Marks m last (marksPart w) → Marks m last (marksPart w′)
+  next-marks m last = subst (Marks m last) (sym (part-behind advancing 10193 504 (omega arith)))
 
   pub progressed : (lo : ℕ) (fig fig′ : List ℕ) → Each s numbers (λ m. Progress m lo l w fig) → Grown s numbers (layerPart w′) (marksPart w′) lo (l + 1) fig fig′
       → Progressed s numbers lo (l + 1) w w′ fig fig′
@@ -85,7 +88,7 @@ module _ (s : Shape) (numbers : List ℕ) (l : ℕ) (w ys : List ℕ) (room : 16
       each : Each s numbers (λ m. Progress m lo (l + 1) w′ fig′)
       each m ok told =
           let layer = next-layer (λ m ok told. before m ok told .layer) m ok told in
-          let marks = subst (Marks m (pred (lo + length fig))) (sym (part-behind advancing 10193 504 (omega arith))) (before m ok told .marks) in
+          let marks = next-marks m (pred (lo + length fig)) (before m ok told .marks) in
           let back : l + 1 - 1 ≡ l = omega arith in
           record {
             layer = layer;

@@ -56,7 +56,7 @@ cast-t20 c = search needs
 returns : tie.Need-returns Inv-loop μ-loop
 returns c =
     let j = c .before .before .before .before .before in
-    passed-here _ _ _ _ _ _ (j .loop .inv) (j .before .pre .1) (c .before .before .before .before .loop-test .taken) (c .before .before .if1 .taken) (c .if2 .taken)
+    passed-here _ _ _ _ _ _ (j .loop .inv) (j .before .pre .1) (c .before .before .before .before .loop-test .taken) (c .before .before .if1 .taken) (omega arith)
 
 add-at-2 : tie.Need-add-at-2 Inv-loop μ-loop
 add-at-2 c = omega (arith, inside (c .before .before))

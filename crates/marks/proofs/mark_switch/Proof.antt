@@ -14,11 +14,11 @@ Inv-loop bits₀ horizon t p q k j step n i₀ bits i = Marking (λ l x. (l ≡ 
 abbrev μ-loop : tie.MeasureT-loop
 μ-loop bits₀ horizon t p q k j step n i₀ bits i = n + 1 - i
 
-sub-lesser : tie.Need-sub-lesser Inv-loop μ-loop
-sub-lesser c = search needs
+sub-smaller : tie.Need-sub-smaller Inv-loop μ-loop
+sub-smaller c = search needs
 
-lesser-requires : tie.Need-lesser-requires Inv-loop μ-loop
-lesser-requires c κs = search needs
+smaller-requires : tie.Need-smaller-requires Inv-loop μ-loop
+smaller-requires c κs = search needs
 
 div-n : tie.Need-div-n Inv-loop μ-loop
 div-n c = search needs
@@ -29,7 +29,7 @@ first-stride-requires c κs = search needs
 loop-holds : tie.Need-loop-holds Inv-loop μ-loop
 loop-holds c =
     let a = c .before .before .before .before in
-    let n = ap (λ (x : ℕ). x / a .args .q) (c .before .before .lesser .ensures) in
+    let n = ap (λ (x : ℕ). x / a .args .q) (c .before .before .smaller .ensures) in
     let r = c .first-stride .ensures in
     (switch-start _ _ _ (a .args .horizon) (a .args .p) (a .args .k) _ _ _ (a .pre .2) n (a .pre .4) (r .1) (r .2), r .0, omega (arith, r .1), n)
 
@@ -63,8 +63,8 @@ mark-switch-spec =
     (tie.spec
     Inv-loop
     μ-loop
-    sub-lesser
-    lesser-requires
+    sub-smaller
+    smaller-requires
     div-n
     first-stride-requires
     loop-holds

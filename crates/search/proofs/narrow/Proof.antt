@@ -49,7 +49,7 @@ returns : tie.Need-returns Inv-loop μ-loop
 returns c =
     let j = c .before .before .before .before .before .before .before .loop .inv in
     let new = c .before .before .before .before .before .bound-range .ensures in
-    record { some = j .0; most = j .1; bounded = record { kept = within-then (j .2) (new .kept); passed = new .passed } }
+    record { some = omega (arith, j .0); most = omega (arith, j .1); bounded = record { kept = within-then (j .2) (new .kept); passed = new .passed } }
 
 loop-less : tie.Need-loop-less Inv-loop μ-loop
 loop-less c = omega (arith, c .before .before .before .before .before .before .before .loop .inv .0)

@@ -78,7 +78,10 @@ loop-less : tie.Need-loop-less Inv-loop μ-loop
 loop-less c = search needs
 
 loop-again : tie.Need-loop-again Inv-loop μ-loop
-loop-again c = behind-clear (c .before .before .before .before .before .before .before .before .before .loop .inv) _ (omega (arith, c .before .before .before .before .before .before .width-at .ensures .2)) (rw (c .enum-told .given .1) at (c .before .before .before .before .search-tile .ensures))
+loop-again c =
+    let width = c .before .before .before .before .before .before .width-at in
+    behind-clear (c .before .before .before .before .before .before .before .before .before .loop .inv) (width .result) (omega (arith, width .ensures .2))
+    (rw (c .enum-told .given .1) at (c .before .before .before .before .search-tile .ensures))
 
 same-length-3 : tie.Need-same-length-3 Inv-loop μ-loop
 same-length-3 c = search needs
