@@ -10,7 +10,7 @@ ghost use Rattle.figures.specs.Figures.{Grown, Added};
 ghost use Rattle.figures.specs.Offers.{Raised, TickOffer, TimeOffer, TaskOffer, ModeOffer, ShapeOffer, Quiet, Room};
 use layers::Shape;
 use layers::larger;
-use marks::smaller;
+use layers::smaller;
 
 // a less b, and 0 where b is more.
 pub fn less(a: usize, b: usize) -> usize

@@ -1,7 +1,7 @@
 // The layers of a module: for each of its states the largest demand in so many ticks, one length after the other.
 ghost use mathlib.Core.Path.{_≡_};
 ghost use mathlib.Core.Bool.{true, false};
-ghost use Prim.Native.Nat.{ℕ, _+_, _*_, _/_, _%_, _^_, _<_, _≤_, max};
+ghost use Prim.Native.Nat.{ℕ, _+_, _*_, _/_, _%_, _^_, _<_, _≤_, min, max};
 ghost use lib.ListN.{length, getD};
 ghost use Rattle.model.specs.Lists.{maxBelow};
 ghost use Rattle.layers.specs.Step.{look, total, period, Moved, raised, added, offerOf, dueAt, offered, gained, stepped, stepAt, Stepped, Cleared, TasksReady, Ready};
@@ -23,6 +23,12 @@ pub fn larger(a: u32, b: u32) -> u32
     ensures { λ r. ⌜ r ≡ max a b ⌝ }
 {
     if a < b { b } else { a }
+}
+
+pub fn smaller(a: usize, b: usize) -> usize
+    ensures { λ r. ⌜ r ≡ min a b ⌝ }
+{
+    if a < b { a } else { b }
 }
 
 // What x leaves, divided by p; no division where x is below p.

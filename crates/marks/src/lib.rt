@@ -1,12 +1,13 @@
 // At which ticks the modes of a module can be begun.
 ghost use mathlib.Core.Path.{_≡_};
 ghost use mathlib.Core.Bool.{true, false};
-ghost use Prim.Native.Nat.{ℕ, _+_, _-_, _*_, _/_, _≤_, _<_, min, max};
+ghost use Prim.Native.Nat.{ℕ, _+_, _-_, _*_, _/_, _≤_, _<_, max};
 ghost use lib.ListN.{length};
 ghost use Rattle.layers.specs.Step.{period, lists, every};
 ghost use Rattle.marks.specs.Marks.{marked};
 ghost use Rattle.marks.specs.Marking.{Marking, Room, Stride, Laid, Opens, Follows, Tick, Walkable, Walked, Followed, Kept, Entered};
 use layers::Shape;
+use layers::smaller;
 
 // Whether tick t of mode k is marked.
 pub fn is_marked(bits: &[u32], k: usize, t: usize) -> bool
@@ -14,12 +15,6 @@ pub fn is_marked(bits: &[u32], k: usize, t: usize) -> bool
     ensures { λ r. ⌜ r ≡ marked (now (bits .entry)) k t ⌝ }
 {
     (bits[63 * k + t / 32] >> (t % 32)) % 2 == 1
-}
-
-pub fn smaller(a: usize, b: usize) -> usize
-    ensures { λ r. ⌜ r ≡ min a b ⌝ }
-{
-    if a < b { a } else { b }
 }
 
 // Mode k can be begun at tick t.

@@ -1,6 +1,6 @@
 // The first interval up to the horizon that is over: the ends in ranges, a range in tiles, and in each tile the sums over all modules.
 ghost use mathlib.Core.Path.{_≡_};
-ghost use Prim.Native.Nat.{pred, _+_, _≤_, _<_, min};
+ghost use Prim.Native.Nat.{pred, _+_, _≤_, _<_};
 ghost use lib.ListN.{length};
 ghost use Rattle.model.specs.Limits.{workNumbers};
 ghost use Rattle.model.specs.Verdict.{exactFrom, exactSum, exact};
@@ -9,15 +9,10 @@ ghost use Rattle.table.specs.Rows.{RowsOf};
 ghost use Rattle.cells.specs.Cells.{layerFrom, Longest, Tile};
 ghost use Rattle.search.specs.Search.{Passed, Beyond, Bounded, Narrowed, CellsOf, Filled, Searched};
 use cells::Found;
+use layers::smaller;
 
 // How many tiles are enough for a range.
 const TILES: usize = 8;
-
-fn smaller(a: usize, b: usize) -> usize
-    ensures { λ r. ⌜ r ≡ min a b ⌝ }
-{
-    if a < b { a } else { b }
-}
 
 // The figures of the module k are added to the cells of the tile, where no length above stop is in question.
 fn add_module(
