@@ -1,5 +1,5 @@
-//! Times the quick and the exact test of the archive and of the second implementation on the
-//! sheets of `bench/sheets`, and prints the times as tables:
+//! Times the state demand, the quick and the exact test of the archive and of the second
+//! implementation on the sheets of `bench/sheets`, and prints the times as tables:
 //!
 //! `cargo run --release --bin bench [-- NAME ...]`
 //!
@@ -27,9 +27,11 @@ struct Timed {
     second: Duration,
 }
 
-/// The times of one sheet: the quick test, and the exact test at each horizon.
+/// The times of one sheet: the demand of the first state of the first module up to the horizon,
+/// the quick test, and the exact test at each horizon.
 struct Times {
     name: String,
+    state: Timed,
     quick: Timed,
     exact: [Timed; HORIZONS.len()],
 }
@@ -74,7 +76,7 @@ fn time_sheet(path: &Path) -> io::Result<Times> {
     let name = stem(path);
     eprintln!("{name}");
     let exact = HORIZONS.map(|horizon| time_exact(&with_horizon(&bytes, horizon)));
-    Ok(Times { name, quick: time_quick(&bytes), exact })
+    Ok(Times { name, state: time_state(&bytes), quick: time_quick(&bytes), exact })
 }
 
 /// The same sheet with another horizon.
@@ -82,6 +84,20 @@ fn with_horizon(bytes: &[u8], horizon: u16) -> Vec<u8> {
     let mut changed = bytes.to_vec();
     changed[2..4].copy_from_slice(&horizon.to_le_bytes());
     changed
+}
+
+fn time_state(bytes: &[u8]) -> Timed {
+    let length = HORIZONS[HORIZONS.len() - 1];
+    let mut work = vec![0; Sheet::WORK_LEN];
+    let archive = || {
+        tyvasuri::state_demand(bytes, 0, 0, 0, length.into(), &mut work)
+            .map_or_else(Answer::from, Answer::from)
+    };
+    let second = || {
+        second::state_demand(bytes, 0, 0, 0, length.into(), WORK_LEN)
+            .map_or_else(Answer::Refused, Answer::Demand)
+    };
+    time_both(archive, second)
 }
 
 fn time_quick(bytes: &[u8]) -> Timed {
@@ -156,9 +172,10 @@ fn words(answer: &Answer) -> String {
 }
 
 fn print_tests(times: &[Times]) {
-    println!("\n| Sheet | Test | Verdict | Archive | Second | Archive / second |");
+    println!("\n| Sheet | Call | Answer | Archive | Second | Archive / second |");
     println!("|---|---|---|---|---|---|");
-    for Times { name, quick, exact } in times {
+    for Times { name, state, quick, exact } in times {
+        println!("| {name} | state demand | {} |", cells(state));
         println!("| {name} | quick | {} |", cells(quick));
         println!("| {name} | exact | {} |", cells(&exact[HORIZONS.len() - 1]));
     }
