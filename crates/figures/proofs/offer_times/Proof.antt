@@ -6,9 +6,9 @@ use Rattle.figures.specs.Offers.{Raised, Below, TimeOffer}
 use borrow.Author.Needs.{needs}
 use lib.ListN.{length}
 use native.Mathlib.Omega.{arith}
-use native.Mathlib.Nat.{mod-lt, mod-eq-of-lt, add-mod-right, mod-add-mod}
-use Prim.Native.Nat.{ℕ, _+_, _-_, _%_}
-use mathlib.Core.Path.{_≡_, sym, ap, _∙_}
+use native.Mathlib.Nat.{mod-lt, mod-eq-of-lt, add-mod-right}
+use Prim.Native.Nat.{_+_, _-_, _%_}
+use mathlib.Core.Path.{_≡_, _∙_}
 use Rattle.figures.proofs.offer_times.Statement.{statement}
 use Rattle.figures.proofs.offer_times.Tie as tie
 

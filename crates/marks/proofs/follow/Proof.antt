@@ -6,7 +6,6 @@ use borrow.Author.Needs.{needs}
 use native.Mathlib.Omega.{arith}
 use Prim.Native.Nat.{_-_}
 use mathlib.Core.Logic.{⊎-elim}
-use mathlib.Core.Path.{sym}
 use Rattle.marks.proofs.follow.Statement.{statement}
 use Rattle.marks.proofs.follow.Tie as tie
 

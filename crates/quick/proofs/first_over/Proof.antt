@@ -1,7 +1,6 @@
 -- `first_over` finds in the sums what the sheet's sums have. Assumes nothing.
 use Rattle.quick.proofs.Pieces.{sums-found}
 use Rattle.format.proofs.RoundTrip.{accepted-wellFormed}
-use denote.Ref.{now}
 use native.Mathlib.Omega.{arith}
 use borrow.Author.Needs.{needs}
 use Rattle.quick.proofs.first_over.Statement.{statement}
