@@ -21,9 +21,9 @@ use Rattle.following.specs.Follow.{counted}
 use Rattle.following.proofs.Choice.{chosen-next, chosen-listed, chosen-top}
 use Rattle.following.proofs.Ticks.{value-step, step-top}
 use Rattle.following.proofs.Tapes.{tape-tick}
+use Rattle.heads.specs.Heads.{headOf, Filled}
 use Rattle.tapes.specs.declared.State.{State}
 use Rattle.tapes.specs.States.{the, Within}
-use Rattle.tapes.specs.Heads.{headOf, Filled}
 use Rattle.tapes.specs.Taped.{Taped}
 use Rattle.tapes.proofs.Answers.{within-listed}
 

@@ -1,12 +1,10 @@
--- Gains and values of a module that the numbers tell. Assumes nothing.
+-- The value of a state, by a walk along its stay. Assumes nothing.
 use mathlib.Core.Path.{_≡_, sym, _∙_}
-use mathlib.Core.List.{List}
-use Prim.Native.Nat.{ℕ, suc, _+_, _-_, _/_, _≤_, _<_, max, min}
+use Prim.Native.Nat.{ℕ, suc, _+_, _-_, _≤_, _<_, max, min}
 use native.Mathlib.Nat.{add-zero}
 use native.Mathlib.Decide.{decLt}
 use native.Mathlib.Omega.{arith}
 use lib.Dec.{ltb}
-use lib.ListN.{length}
 use borrow.Author.Tests.{lt-ltb, le-ltb}
 use Rattle.model.specs.Lists.{when, maxBelow}
 use Rattle.model.specs.Sheet.{Module, modesIn}
@@ -14,16 +12,8 @@ use Rattle.model.specs.WellFormed.{ModuleRule}
 use Rattle.model.specs.Run.{at, modeAt, gain}
 use Rattle.model.specs.Demand.{value}
 use Rattle.model.proofs.Bounds.{value-fits}
-use Rattle.layers.specs.declared.Shape.{Shape}
-use Rattle.layers.specs.Step.{sumBelow, tasksOf, due}
-use Rattle.layers.specs.Layer.{Told}
-use Rattle.layers.proofs.Nexts.{gains-are}
 use Rattle.following.specs.Follow.{opens, counted}
 use Rattle.following.proofs.Ticks.{value-over, value-walk}
-
-pub gain-told : (m : Module) (s : Shape) (numbers : List ℕ) → Told m s numbers → (k : ℕ) → k < s .modes → (l d : ℕ)
-    → sumBelow (due (tasksOf s numbers k) l d) (length (tasksOf s numbers k) / 4) ≡ gain m (at k d) 0 l
-gain-told m s numbers told k h l d = gains-are m (tasksOf s numbers k) k (told .each k h .tasks) l d
 
 -- A walk along a stay of the mode k, from mode time d at tick t.
 

@@ -30,7 +30,7 @@ counted-at-requires : tie.Need-counted-at-requires Inv-loop μ-loop
 counted-at-requires c κs = search needs
 
 gain-at-requires : tie.Need-gain-at-requires Inv-loop μ-loop
-gain-at-requires c κs = (c .before .before .before .before .before .before .before .before .pre .0, c .before .before .before .loop .inv .1 .within)
+gain-at-requires c κs = (c .before .before .before .before .before .before .before .before .pre .0, c .before .before .before .loop .inv .1 .within .mode)
 
 -- what is known once the gain is
 gained : (c : tie.After-gain-at Inv-loop μ-loop) → let a = c .before .before .before .before .before .before .before .before .before .args in

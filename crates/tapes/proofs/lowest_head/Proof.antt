@@ -7,7 +7,7 @@ use lib.ListN.{length}
 use borrow.Author.Needs.{needs}
 use Rattle.following.proofs.Lowest.{lowest-only}
 use Rattle.following.specs.Follow.{attains, head}
-use Rattle.tapes.specs.Heads.{EachAt}
+use Rattle.heads.specs.Heads.{EachAt}
 use Rattle.tapes.specs.States.{the}
 use Rattle.tapes.proofs.Search.{fails-more}
 use Rattle.tapes.proofs.lowest_head.Statement.{statement}

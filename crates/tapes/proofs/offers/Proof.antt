@@ -8,7 +8,7 @@ use borrow.Author.Needs.{needs}
 use Rattle.model.specs.Run.{at}
 use Rattle.model.specs.Lists.{when, maxBelow}
 use Rattle.following.specs.Follow.{opens}
-use Rattle.tapes.specs.Heads.{EachAt}
+use Rattle.heads.specs.Heads.{EachAt}
 use Rattle.tapes.specs.States.{the}
 use Rattle.tapes.proofs.offers.Statement.{statement}
 use Rattle.tapes.proofs.offers.Tie as tie

@@ -2,9 +2,9 @@
 use native.Mathlib.Omega.{arith}
 use borrow.Author.Needs.{needs}
 use Rattle.layers.proofs.Layers.{told-ready}
-use Rattle.tapes.proofs.Backward.{states-few, noted}
-use Rattle.tapes.proofs.note_heads.Statement.{statement}
-use Rattle.tapes.proofs.note_heads.Tie as tie
+use Rattle.heads.proofs.Backward.{states-few, noted}
+use Rattle.heads.proofs.note_heads.Statement.{statement}
+use Rattle.heads.proofs.note_heads.Tie as tie
 
 heads-requires : tie.Need-heads-requires
 heads-requires c κs =

@@ -1,9 +1,9 @@
 -- `back_to` makes of the layer and the heads of tick t + 1 those of tick t. Assumes nothing.
 use native.Mathlib.Omega.{arith}
 use borrow.Author.Needs.{needs}
-use Rattle.tapes.proofs.Backward.{states-few, steppable, reached-back, kept-back}
-use Rattle.tapes.proofs.back_to.Statement.{statement}
-use Rattle.tapes.proofs.back_to.Tie as tie
+use Rattle.heads.proofs.Backward.{states-few, steppable, reached-back, kept-back}
+use Rattle.heads.proofs.back_to.Statement.{statement}
+use Rattle.heads.proofs.back_to.Tie as tie
 
 counted-at-requires : tie.Need-counted-at-requires
 counted-at-requires c κs = search needs

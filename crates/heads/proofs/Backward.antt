@@ -21,8 +21,8 @@ use Rattle.layers.proofs.Turns.{turn-back}
 use Rattle.layers.proofs.Layers.{states-told, place-inside, held-told, told-ready, layer-start}
 use Rattle.following.specs.Follow.{counted}
 use Rattle.following.proofs.Ticks.{value-over, value-step}
-use Rattle.tapes.specs.Heads.{pairAt, HeadsAt, Packed, Noted, Reached, Kept}
-use Rattle.tapes.proofs.Pairs.{packed-head, head-same}
+use Rattle.heads.specs.Heads.{pairAt, HeadsAt, Packed, Noted, Reached, Kept}
+use Rattle.heads.proofs.Pairs.{packed-head, head-same}
 
 -- What a layer holds.
 

@@ -4,10 +4,10 @@ use mathlib.Core.Path.{sym, subst}
 use Prim.Native.Nat.{ℕ, _+_, _-_, _≤_}
 use native.Mathlib.Omega.{arith}
 use borrow.Author.Needs.{needs}
-use Rattle.tapes.specs.Heads.{Packed}
-use Rattle.tapes.proofs.Pairs.{packed-none, packed-more, packed-at}
-use Rattle.tapes.proofs.pack.Statement.{statement}
-use Rattle.tapes.proofs.pack.Tie as tie
+use Rattle.heads.specs.Heads.{Packed}
+use Rattle.heads.proofs.Pairs.{packed-none, packed-more, packed-at}
+use Rattle.heads.proofs.pack.Statement.{statement}
+use Rattle.heads.proofs.pack.Tie as tie
 
 abbrev Inv-loop : tie.InvT-loop
 Inv-loop work₀ t tops i₀ work i = (i ≤ 4) × Packed t i tops work₀ work

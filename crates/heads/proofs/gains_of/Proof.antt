@@ -6,8 +6,8 @@ use native.Mathlib.Numerals.{add-one}
 use lib.ListN.{length}
 use borrow.Author.Needs.{needs}
 use Rattle.layers.specs.Step.{sumBelow, due}
-use Rattle.tapes.proofs.gains_of.Statement.{statement}
-use Rattle.tapes.proofs.gains_of.Tie as tie
+use Rattle.heads.proofs.gains_of.Statement.{statement}
+use Rattle.heads.proofs.gains_of.Tie as tie
 
 abbrev Inv-loop : tie.InvT-loop
 Inv-loop tasks l d n sum₀ i₀ sum i = (i ≤ length tasks / 4) × (sum ≡ sumBelow (due tasks l d) i) × (sum ≤ 65535 * i)

@@ -8,7 +8,7 @@ use lib.ListN.{length, set, length-set}
 use lib.Seq.{getD-set-same, getD-set-other}
 use borrow.Author.Tests.{eq-eqb, ne-eqb}
 use Rattle.layers.specs.Step.{look}
-use Rattle.tapes.specs.Heads.{pairAt, pairOf, headOf, Packed}
+use Rattle.heads.specs.Heads.{pairAt, pairOf, headOf, Packed}
 
 -- One pair after the other.
 

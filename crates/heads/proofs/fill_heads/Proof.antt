@@ -3,10 +3,10 @@ use mathlib.Core.Path.{_≡_, subst}
 use Prim.Native.Nat.{ℕ, _+_, _-_, _≤_}
 use native.Mathlib.Omega.{arith}
 use borrow.Author.Needs.{needs}
-use Rattle.tapes.specs.Heads.{Reached, Kept}
-use Rattle.tapes.proofs.Backward.{kept-none, kept-more}
-use Rattle.tapes.proofs.fill_heads.Statement.{statement}
-use Rattle.tapes.proofs.fill_heads.Tie as tie
+use Rattle.heads.specs.Heads.{Reached, Kept}
+use Rattle.heads.proofs.Backward.{kept-none, kept-more}
+use Rattle.heads.proofs.fill_heads.Statement.{statement}
+use Rattle.heads.proofs.fill_heads.Tie as tie
 
 abbrev Inv-loop : tie.InvT-loop
 Inv-loop work₀ a b shape numbers t₀ work t = (t ≤ b) × Reached shape numbers a b t work × Kept work₀ work

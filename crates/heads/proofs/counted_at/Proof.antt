@@ -1,8 +1,8 @@
 -- `counted_at` counts no instance that is released before the interval. Assumes nothing.
 use borrow.Author.Tests.{le-leb, lt-leb}
 use borrow.Author.Needs.{needs}
-use Rattle.tapes.proofs.counted_at.Statement.{statement}
-use Rattle.tapes.proofs.counted_at.Tie as tie
+use Rattle.heads.proofs.counted_at.Statement.{statement}
+use Rattle.heads.proofs.counted_at.Tie as tie
 
 sub-result : tie.Need-sub-result
 sub-result c = search needs

@@ -2,9 +2,9 @@
 use native.Mathlib.Omega.{arith}
 use borrow.Author.Needs.{needs}
 use Rattle.layers.proofs.Parts.{cleared-at}
-use Rattle.tapes.proofs.Backward.{states-few, reached-end, kept-end}
-use Rattle.tapes.proofs.begin_at.Statement.{statement}
-use Rattle.tapes.proofs.begin_at.Tie as tie
+use Rattle.heads.proofs.Backward.{states-few, reached-end, kept-end}
+use Rattle.heads.proofs.begin_at.Statement.{statement}
+use Rattle.heads.proofs.begin_at.Tie as tie
 
 states-requires : tie.Need-states-requires
 states-requires c κs = search needs

@@ -6,17 +6,16 @@ use lib.ListN.{length-take}
 use mir.Val.{Fits}
 use mir.Syntax.{w16}
 use borrow.Author.Needs.{needs}
-use Rattle.model.specs.Run.{gain}
+use Rattle.model.specs.Run.{at, gain}
 use Rattle.model.specs.WellFormed.{ModuleRule}
 use Rattle.model.specs.Sheet.{Module}
 use Rattle.layers.specs.Step.{ModeReady, look}
 use Rattle.layers.specs.Layer.{Told}
 use Rattle.layers.proofs.Bounds.{gain-le}
 use Rattle.layers.proofs.Layers.{told-ready}
-use Rattle.tapes.specs.States.{the}
-use Rattle.tapes.proofs.Values.{gain-told}
-use Rattle.tapes.proofs.gain_at.Statement.{statement}
-use Rattle.tapes.proofs.gain_at.Tie as tie
+use Rattle.heads.proofs.Gains.{gain-told}
+use Rattle.heads.proofs.gain_at.Statement.{statement}
+use Rattle.heads.proofs.gain_at.Tie as tie
 
 mul-a : tie.Need-mul-a
 mul-a c = search needs
@@ -43,44 +42,44 @@ mul-gains-of : tie.Need-mul-gains-of
 mul-gains-of c =
     let p = c .before .before .before .pre in
     let a = c .before .before .before .args in
-    let ready : ModeReady (a .t3) (a .numbers .now) (a .s .mode) = told-ready (p .0 .owner) (p .0 .rule) _ _ (p .0 .told) .each _ (p .1 .mode) in
+    let ready : ModeReady (a .t4) (a .numbers .now) (a .k) = told-ready (p .0 .owner) (p .0 .rule) _ _ (p .0 .told) .each _ (p .1) in
     search needs
 
 sub-gains-of : tie.Need-sub-gains-of
 sub-gains-of c =
     let p = c .before .before .before .pre in
     let a = c .before .before .before .args in
-    let ready : ModeReady (a .t3) (a .numbers .now) (a .s .mode) = told-ready (p .0 .owner) (p .0 .rule) _ _ (p .0 .told) .each _ (p .1 .mode) in
+    let ready : ModeReady (a .t4) (a .numbers .now) (a .k) = told-ready (p .0 .owner) (p .0 .rule) _ _ (p .0 .told) .each _ (p .1) in
     search needs
 
 part-gains-of-start : tie.Need-part-gains-of-start
 part-gains-of-start c =
     let p = c .before .before .before .pre in
     let a = c .before .before .before .args in
-    let ready : ModeReady (a .t3) (a .numbers .now) (a .s .mode) = told-ready (p .0 .owner) (p .0 .rule) _ _ (p .0 .told) .each _ (p .1 .mode) in
+    let ready : ModeReady (a .t4) (a .numbers .now) (a .k) = told-ready (p .0 .owner) (p .0 .rule) _ _ (p .0 .told) .each _ (p .1) in
     search needs
 
 part-gains-of-end : tie.Need-part-gains-of-end
 part-gains-of-end c =
     let p = c .before .before .before .pre in
     let a = c .before .before .before .args in
-    let ready : ModeReady (a .t3) (a .numbers .now) (a .s .mode) = told-ready (p .0 .owner) (p .0 .rule) _ _ (p .0 .told) .each _ (p .1 .mode) in
+    let ready : ModeReady (a .t4) (a .numbers .now) (a .k) = told-ready (p .0 .owner) (p .0 .rule) _ _ (p .0 .told) .each _ (p .1) in
     search needs
 
 gains-of-requires : tie.Need-gains-of-requires
 gains-of-requires c κs =
     let p = c .before .before .before .before .pre in
     let a = c .before .before .before .before .args in
-    let f : Fits w16 (look (a .t3 .starts) (a .s .mode + 1)) = search needs in
-    (told-ready _ (p .0 .rule) _ _ (p .0 .told) .each _ (p .1 .mode) .tasks, simp length-take (omega (arith, f .fits)))
+    let f : Fits w16 (look (a .t4 .starts) (a .k + 1)) = search needs in
+    (told-ready _ (p .0 .rule) _ _ (p .0 .told) .each _ (p .1) .tasks, simp length-take (omega (arith, f .fits)))
 
 returns : tie.Need-returns
 returns c =
     let p = c .before .before .before .before .before .pre in
     let a = c .before .before .before .before .before .args in
-    let is : (m : Module) → ModuleRule m → Told m (a .t3) (a .numbers .now) → c .gains-of .result ≡ gain m (the (a .s)) 0 (a .l) =
-    λ m ok told. c .gains-of .ensures ∙ gain-told m _ _ told _ (p .1 .mode) _ _ in
-    (omega (arith, is (p .0 .owner) (p .0 .rule) (p .0 .told), gain-le (p .0 .owner) (p .0 .rule) (the (a .s)) 0 (a .l)), is)
+    let is : (m : Module) → ModuleRule m → Told m (a .t4) (a .numbers .now) → c .gains-of .result ≡ gain m (at (a .k) (a .d)) 0 (a .l) =
+    λ m ok told. c .gains-of .ensures ∙ gain-told m _ _ told _ (p .1) _ _ in
+    (omega (arith, is (p .0 .owner) (p .0 .rule) (p .0 .told), gain-le (p .0 .owner) (p .0 .rule) (at (a .k) (a .d)) 0 (a .l)), is)
 
 pub gain-at-spec : {M : Type 1} → statement M
 gain-at-spec =

@@ -4,8 +4,8 @@ use native.Mathlib.Omega.{arith}
 use borrow.Author.Tests.{le-leb, lt-leb, eq-eqb, ne-eqb}
 use borrow.Author.Needs.{needs}
 use Rattle.layers.specs.Step.{due}
-use Rattle.tapes.proofs.gain_of.Statement.{statement}
-use Rattle.tapes.proofs.gain_of.Tie as tie
+use Rattle.heads.proofs.gain_of.Statement.{statement}
+use Rattle.heads.proofs.gain_of.Tie as tie
 
 mul-window : tie.Need-mul-window
 mul-window c = search needs

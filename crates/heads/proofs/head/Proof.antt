@@ -4,9 +4,9 @@ use native.Mathlib.Nat.{mod-lt}
 use native.Mathlib.Omega.{arith}
 use borrow.Author.Tests.{eq-eqb, ne-eqb}
 use borrow.Author.Needs.{needs}
-use Rattle.tapes.specs.Heads.{headOf}
-use Rattle.tapes.proofs.head.Statement.{statement}
-use Rattle.tapes.proofs.head.Tie as tie
+use Rattle.heads.specs.Heads.{headOf}
+use Rattle.heads.proofs.head.Statement.{statement}
+use Rattle.heads.proofs.head.Tie as tie
 
 mul-pair : tie.Need-mul-pair
 mul-pair c = search needs

@@ -1,0 +1,3 @@
+pub mod Gains
+pub mod Pairs
+pub mod Backward
