@@ -14,7 +14,7 @@ use Rattle.sums.specs.Sums.{quickOf}
 use Rattle.query.specs.Answer.{Terms, given}
 use Rattle.query.specs.Query.{quickTerms, QuickAnswer}
 use Rattle.query.proofs.Answers.{quick-answer}
-use Rattle.query.proofs.Meeting.{met-given, stays-by}
+use Rattle.query.proofs.Meeting.{met-given}
 use Rattle.quick.specs.declared.Quick.{Quick}
 use Rattle.quick.specs.Quick.{answerOf, QuickTested}
 use Rattle.quick.specs.Sums.{Found}
@@ -36,5 +36,5 @@ module _ (bytes w w′ : List ℕ) where
       let is : answerOf r ≡ given (quick (sheetIn bytes)) = e ∙ ap given (found-all (sheetIn bytes) horizon over w w′ (sound .horizon-is) found) in
       record {
         answer = subst (QuickAnswer bytes (length w)) (met-given (quickTerms (length w)) bytes (sound .met) quick ∙ sym is) (quick-answer bytes (length w));
-        memory = rw is (stays-by workNumbers w w′ (found .len) (found .above));
+        memory = rw is (found .stays);
       }

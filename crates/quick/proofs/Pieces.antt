@@ -10,6 +10,8 @@ use lib.ListN.{length}
 use Rattle.model.specs.Sheet.{Sheet}
 use Rattle.model.specs.Limits.{workNumbers}
 use Rattle.model.specs.Verdict.{Quick, quickPick, quickFrom, quickSum, quick}
+use Rattle.query.specs.Memory.{Stays}
+use Rattle.query.proofs.Meeting.{stays-more, stays-by}
 use Rattle.layers.specs.Step.{look}
 use Rattle.sums.specs.declared.Over.{Over}
 use Rattle.sums.specs.declared.Over.the-variants.{At}
@@ -23,8 +25,7 @@ quickFrom-same f g (suc n) L e = rw (e L (omega arith) (omega arith), quickFrom-
 
 pub sums-found : (s : Sheet) (n : ℕ) (r : Over) (w w′ : List ℕ) → SumsOf s n w w′ → quickOf r ≡ quickFrom (look w′) n 1 → Found s n r w w′
 sums-found s n r w w′ sums e = record {
-  len = sums .len;
-  above = sums .above;
+  stays = stays-by workNumbers w w′ (sums .len) (sums .above);
   first = e ∙ quickFrom-same (look w′) (quickSum s) n 1 (λ K h l. sums .sums K h (omega arith));
 }
 
@@ -48,23 +49,12 @@ early f (suc n) (suc N) L K v h e = pick (ltb L (f L)) (early f n N (suc L) K v 
 
 module _ (s : Sheet) where
   pub found-early : (n N length sum : ℕ) (w w′ : List ℕ) → n ≤ N → Found s n (At length sum) w w′ → Found s N (At length sum) w w′
-  found-early n N length sum w w′ h found = record { len = found .len; above = found .above; first = sym (early (quickSum s) n N 1 length sum h (sym (found .first))) }
+  found-early n N length sum w w′ h found = record { stays = found .stays; first = sym (early (quickSum s) n N 1 length sum h (sym (found .first))) }
 
   pub found-all : (n : ℕ) (r : Over) (w w′ : List ℕ) → n ≡ s .horizon → Found s n r w w′ → quickOf r ≡ quick s
   unfolding quick
   found-all n r w w′ e found = rw e at (found .first)
 
--- what a search has left, and one after it
-pub record Kept (w w′ : List ℕ) : Type 0 where
-  pub len : length w′ ≡ length w
-  pub above : (x : ℕ) → workNumbers ≤ x → look w′ x ≡ look w x
-
-pub kept-none : (w : List ℕ) → Kept w w
-kept-none w = record { len = refl; above = λ x h. refl }
-
-module _ (s : Sheet) (n : ℕ) (r : Over) (w w′ w″ : List ℕ) (before : Kept w w′) (found : Found s n r w′ w″) where
-  pub kept-more : Kept w w″
-  kept-more = record { len = found .len ∙ before .len; above = λ x h. found .above x h ∙ before .above x h }
-
-  pub found-behind : Found s n r w w″
-  found-behind = record { len = kept-more .len; above = kept-more .above; first = found .first }
+  -- from the memory before a search that found nothing
+  pub found-behind : (n : ℕ) (r : Over) (w w′ w″ : List ℕ) → Stays workNumbers w w′ → Found s n r w′ w″ → Found s n r w w″
+  found-behind n r w w′ w″ before found = record { stays = stays-more before (found .stays); first = found .first }

@@ -7,6 +7,7 @@ use Rattle.model.specs.Sheet.{Sheet, moduleAt}
 use Rattle.model.specs.Limits.{workNumbers}
 use Rattle.model.specs.Demand.{moduleDemand}
 use Rattle.model.specs.Verdict.{quickFrom, quickSum}
+use Rattle.query.specs.Memory.{Stays}
 use Rattle.layers.specs.Step.{look}
 use Rattle.sums.specs.declared.Over.{Over}
 use Rattle.sums.specs.Sums.{quickOf}
@@ -25,6 +26,5 @@ pub record SumsOf (s : Sheet) (n : ℕ) (w w′ : List ℕ) : Type 0 where
 
 -- the first length up to n whose sum exceeds it is found
 pub record Found (s : Sheet) (n : ℕ) (r : Over) (w w′ : List ℕ) : Type 0 where
-  pub len : length w′ ≡ length w
-  pub above : (x : ℕ) → workNumbers ≤ x → look w′ x ≡ look w x
+  pub stays : Stays workNumbers w w′
   pub first : quickOf r ≡ quickFrom (quickSum s) n 1

@@ -1,5 +1,8 @@
 -- `first_of_all` looks at more and more lengths: so far only the working memory has changed. Assumes nothing.
-use Rattle.quick.proofs.Pieces.{Kept, kept-none, kept-more, found-behind, found-early}
+use Rattle.model.specs.Limits.{workNumbers}
+use Rattle.query.specs.Memory.{Stays}
+use Rattle.query.proofs.Meeting.{stays-untouched, stays-more}
+use Rattle.quick.proofs.Pieces.{found-behind, found-early}
 use borrow.Author.Needs.{needs}
 use native.Mathlib.Omega.{arith}
 use Prim.Native.Nat.{_-_, _≤_}
@@ -7,13 +10,13 @@ use Rattle.quick.proofs.first_of_all.Statement.{statement}
 use Rattle.quick.proofs.first_of_all.Tie as tie
 
 abbrev Inv-loop : tie.InvT-loop
-Inv-loop sheet work₀ modules horizon periods every listed n₀ work n = (1 ≤ n) × Kept work₀ work
+Inv-loop sheet work₀ modules horizon periods every listed n₀ work n = (1 ≤ n) × Stays workNumbers work₀ work
 
 abbrev μ-loop : tie.MeasureT-loop
 μ-loop sheet work₀ modules horizon periods every listed n₀ work n = horizon - n
 
 loop-holds : tie.Need-loop-holds Inv-loop μ-loop
-loop-holds c = (omega arith, kept-none _)
+loop-holds c = (omega arith, stays-untouched _ _)
 
 first-over-requires : tie.Need-first-over-requires Inv-loop μ-loop
 first-over-requires c κs = let p = c .before .before .before .before .before .pre in (p .0, (p .1 .0, (omega (arith, p .1 .1 .0 .0), (p .1 .1 .1 .0, omega (arith, p .1 .1 .1 .1, c .before .before .loop .inv .1 .len)))))
@@ -37,7 +40,7 @@ loop-less : tie.Need-loop-less Inv-loop μ-loop
 loop-less c = omega arith
 
 loop-again : tie.Need-loop-again Inv-loop μ-loop
-loop-again c = (omega arith, kept-more _ _ _ _ _ _ (c .before .before .before .before .before .before .before .loop .inv .1) (c .before .before .before .before .first-over .ensures))
+loop-again c = (omega arith, stays-more (c .before .before .before .before .before .before .before .loop .inv .1) (c .before .before .before .before .first-over .ensures .stays))
 
 first-over-requires-2 : tie.Need-first-over-requires-2 Inv-loop μ-loop
 first-over-requires-2 c κs = let p = c .before .before .before .before .before .pre in (p .0, (p .1 .0, (omega (arith, p .1 .1 .0 .0), (p .1 .1 .1 .0, omega (arith, p .1 .1 .1 .1, c .before .before .loop .inv .1 .len)))))
