@@ -26,7 +26,7 @@ fn both_verdicts(tally: &Tally, least: u64) -> bool {
 #[test]
 fn small_sheets() {
     let mut comparison = Comparison::default();
-    (0..4000).for_each(|seed| alike(comparison.small(seed)));
+    (0..40_000).for_each(|seed| alike(comparison.small(seed)));
     let tally = comparison.tally;
     println!("{tally}");
     assert!(both_verdicts(&tally, 1000));
@@ -40,7 +40,7 @@ fn small_sheets() {
 #[test]
 fn large_and_damaged_sheets() {
     let mut comparison = Comparison::default();
-    (0..70).for_each(|seed| alike(comparison.large(seed)));
+    (0..700).for_each(|seed| alike(comparison.large(seed)));
     let tally = comparison.tally;
     println!("{tally}");
     assert!(both_verdicts(&tally, 20));
