@@ -5,28 +5,16 @@ use mathlib.Core.Bool.{Bool, true, false}
 use mathlib.Core.List.{List}
 use Prim.Native.Nat.{ℕ, _+_, _-_, _*_, _%_, _≤_, _<_}
 use native.Mathlib.Nat.{mod-eq-of-lt}
-use native.Mathlib.Decide.{decLt}
 use native.Mathlib.Omega.{arith}
 use lib.ListN.{length, take, drop}
 use Rattle.layers.specs.declared.Shape.{Shape}
 use Rattle.layers.specs.Step.{look, total, period, tasksOf}
 use Rattle.layers.proofs.Walks.{skips}
 use Rattle.marks.specs.Marks.{marked}
-use Rattle.figures.specs.Offers.{Below, TickOffer, TimeOffer, TaskOffer, ModeOffer, ShapeOffer, partOf, Quiet}
+use Rattle.figures.specs.Offers.{Below, TickOffer, TimeOffer, TaskOffer, ModeOffer, ShapeOffer, partOf, AnyMark}
 use Rattle.figures.proofs.Offered.{not-both}
-use Rattle.bounds.specs.Tops.{Topped, AnyMark}
+use Rattle.bounds.specs.Tops.{Topped}
 use Rattle.bounds.proofs.Tops.{top-as, topped, top-kept, top-start, top-more}
-
--- no tick from a on and before t is marked
-abbrev pub Unmarked : List ℕ → ℕ → ℕ → ℕ → Type 0
-Unmarked bits k a t = (x : ℕ) → a ≤ x → x < t → marked bits k x ≡ false
-
-pub unmarked-more : (bits : List ℕ) (k a t r : ℕ) → Quiet bits k t r → Unmarked bits k a t → Unmarked bits k a (t + r)
-unmarked-more bits k a t r quiet before x low h = pick (decLt x t)
-  where
-    pick : Dec (x < t) → marked bits k x ≡ false
-    pick (yes y) = before x low y
-    pick (no y) = let same : t + (x - t) ≡ x = omega arith in rw same at (quiet .none (x - t) (omega arith))
 
 -- The ticks at which mode k is marked.
 

@@ -11,26 +11,11 @@ ghost use Rattle.layers.specs.Layer.{Tells, Each, IsLayer};
 ghost use Rattle.sums.specs.Sums.{Fits};
 ghost use Rattle.marks.specs.Marks.{markNumbers};
 ghost use Rattle.figures.specs.Offers.{Below, TickOffer, TimeOffer, TaskOffer, ModeOffer, ShapeOffer};
-ghost use Rattle.bounds.specs.Tops.{Topped, AnyMark, Room};
+ghost use Rattle.bounds.specs.Tops.{Topped, Room};
 ghost use Rattle.bounds.specs.Bounds.{Progress, Progressed, NextAdded, BoundsAdded, ModuleAdded, SumsBounded};
+use figures::any_mark;
 use figures::less;
 use layers::Shape;
-
-// Whether a tick from a on and before b bears a mark of mode k.
-fn any_mark(bits: &[u32], k: usize, a: usize, b: usize) -> bool
-    requires { ⌜ (k < 8) × (b ≤ 2016) × (markNumbers ≤ length (now bits)) ⌝ }
-    ensures { λ r. ⌜ AnyMark (now (bits .entry)) k a b r ⌝ }
-{
-    let mut t = a;
-    while t < b {
-        let skip = figures::quiet(bits, k, t);
-        if skip == 0 {
-            return true;
-        }
-        t += skip;
-    }
-    false
-}
 
 // The best number, or v if it is larger and an end of the range is so many ticks after a mark of mode k.
 fn top_time(best: u32, v: u32, bits: &[u32], k: usize, lo: usize, width: usize, far: usize) -> u32

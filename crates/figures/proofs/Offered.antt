@@ -101,10 +101,13 @@ pub mode-unbegun : (s : Shape) (numbers layer bits : List ℕ) (lo l k : ℕ) (w
     → Raised (ShapeOffer s numbers layer bits lo l k) w w
 mode-unbegun s numbers layer bits lo l k w top none = raised-none _ w (λ i v h p. let o = p .2 .offer .offer in not-both (o .marked) (none (p .2 .offer .tick) (omega (arith, o .ends))))
 
--- no tick below t is marked
-pub none-more : (bits : List ℕ) (k t r : ℕ) → Quiet bits k t r → ((x : ℕ) → x < t → marked bits k x ≡ false) → (x : ℕ) → x < t + r → marked bits k x ≡ false
-none-more bits k t r quiet before x h = pick (decLt x t)
+-- no tick from a on and before t is marked
+abbrev pub Unmarked : List ℕ → ℕ → ℕ → ℕ → Type 0
+Unmarked bits k a t = (x : ℕ) → a ≤ x → x < t → marked bits k x ≡ false
+
+pub unmarked-more : (bits : List ℕ) (k a t r : ℕ) → Quiet bits k t r → Unmarked bits k a t → Unmarked bits k a (t + r)
+unmarked-more bits k a t r quiet before x low h = pick (decLt x t)
   where
     pick : Dec (x < t) → marked bits k x ≡ false
-    pick (yes a) = before x a
-    pick (no a) = let same : t + (x - t) ≡ x = omega arith in rw same at (quiet .none (x - t) (omega arith))
+    pick (yes y) = before x low y
+    pick (no y) = let same : t + (x - t) ≡ x = omega arith in rw same at (quiet .none (x - t) (omega arith))

@@ -1,7 +1,7 @@
 -- What is offered to the figures of a tile. These definitions speak of lists of numbers alone. Assumes nothing.
 use mathlib.Core.Path.{_≡_}
 use mathlib.Core.Logic.{_⊎_}
-use mathlib.Core.Bool.{true, false}
+use mathlib.Core.Bool.{Bool, true, false}
 use mathlib.Core.List.{List}
 use Prim.Native.Nat.{ℕ, _+_, _*_, _/_, _%_, _≤_, _<_}
 use lib.ListN.{length, take, drop}
@@ -57,6 +57,11 @@ pub record Quiet (bits : List ℕ) (k t r : ℕ) : Type 0 where
   pub most : r ≤ 32
   pub none : (x : ℕ) → x < r → marked bits k (t + x) ≡ false
   pub some : r ≡ 0 → marked bits k t ≡ true
+
+-- r says whether a tick from a on and before b is marked
+pub record AnyMark (bits : List ℕ) (k a b : ℕ) (r : Bool) : Type 0 where
+  pub none : r ≡ false → (t : ℕ) → a ≤ t → t < b → marked bits k t ≡ false
+  pub some : r ≡ true → (t : ℕ) × (a ≤ t) × (t < b) × (marked bits k t ≡ true)
 
 -- the marks have all their rows, mode k is one of eight, and no end is above 2,000
 pub record Room (k lo : ℕ) (bits fig : List ℕ) : Type 0 where

@@ -5,9 +5,9 @@ ghost use Prim.Native.Nat.{ℕ, _+_, _-_, _*_, _/_, _^_, _<_, _≤_};
 ghost use lib.ListN.{length};
 ghost use Rattle.layers.specs.Step.{look, total, period, TasksReady, ModeReady};
 ghost use Rattle.layers.specs.Layer.{IsLayer};
-ghost use Rattle.marks.specs.Marks.{markNumbers, marked};
+ghost use Rattle.marks.specs.Marks.{markNumbers};
 ghost use Rattle.figures.specs.Figures.{Grown, Added};
-ghost use Rattle.figures.specs.Offers.{Raised, TickOffer, TimeOffer, TaskOffer, ModeOffer, ShapeOffer, Quiet, Room};
+ghost use Rattle.figures.specs.Offers.{Raised, TickOffer, TimeOffer, TaskOffer, ModeOffer, ShapeOffer, Quiet, AnyMark, Room};
 use layers::Shape;
 use layers::larger;
 use layers::smaller;
@@ -20,7 +20,7 @@ pub fn less(a: usize, b: usize) -> usize
 }
 
 // How many ticks from t on are known to bear no mark of mode k: 0 exactly where t bears one.
-pub fn quiet(bits: &[u32], k: usize, t: usize) -> usize
+fn quiet(bits: &[u32], k: usize, t: usize) -> usize
     requires { ⌜ (k < 8) × (t < 2016) × (markNumbers ≤ length (now bits)) ⌝ }
     ensures { λ r. ⌜ Quiet (now (bits .entry)) k t r ⌝ }
 {
@@ -28,13 +28,13 @@ pub fn quiet(bits: &[u32], k: usize, t: usize) -> usize
     smaller(u32::trailing_zeros(rest) as usize, 32 - t % 32)
 }
 
-// Whether mode k is begun at all.
-fn is_begun(bits: &[u32], k: usize) -> bool
-    requires { ⌜ (k < 8) × (markNumbers ≤ length (now bits)) ⌝ }
-    ensures { λ r. ⌜ (r ≡ false → (t : ℕ) → t < 2016 → marked (now (bits .entry)) k t ≡ false) ⌝ }
+// Whether a tick from a on and before b bears a mark of mode k.
+pub fn any_mark(bits: &[u32], k: usize, a: usize, b: usize) -> bool
+    requires { ⌜ (k < 8) × (b ≤ 2016) × (markNumbers ≤ length (now bits)) ⌝ }
+    ensures { λ r. ⌜ AnyMark (now (bits .entry)) k a b r ⌝ }
 {
-    let mut t = 0;
-    while t < 2016 {
+    let mut t = a;
+    while t < b {
         let skip = quiet(bits, k, t);
         if skip == 0 {
             return true;
@@ -156,7 +156,7 @@ fn offer_mode(
     let to = from + shape.periods[k] as usize;
     let a = shape.starts[k] as usize;
     let e = shape.starts[k + 1] as usize;
-    if is_begun(bits, k) {
+    if any_mark(bits, k, 0, 2016) {
         offer_tasks(fig, &layer[from..to], &numbers[a..e], bits, k, lo, l);
     }
     to

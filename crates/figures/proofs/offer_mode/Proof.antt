@@ -41,8 +41,8 @@ element-copy-out-e c = search needs
 cast-e : tie.Need-cast-e
 cast-e c = search needs
 
-is-begun-requires : tie.Need-is-begun-requires
-is-begun-requires c κs = search needs
+any-mark-requires : tie.Need-any-mark-requires
+any-mark-requires c κs = search needs
 
 mul-offer-tasks : tie.Need-mul-offer-tasks
 mul-offer-tasks c = search needs
@@ -92,7 +92,7 @@ returns-2 c =
     let s = c .before .before .before .before .before .before .before .before .before in
     let a = s .args in (
       omega (arith, sum-more (look (a .t6 .periods)) (a .k)),
-      mode-unbegun (a .t6) (a .numbers .now) (a .layer .now) _ _ _ _ _ (s .pre .4 .ends) (c .before .is-begun .ensures (c .if1 .left)),
+      mode-unbegun (a .t6) (a .numbers .now) (a .layer .now) _ _ _ _ _ (s .pre .4 .ends) (λ t h. c .before .any-mark .ensures .none (c .if1 .left) t (omega arith) h),
     )
 
 pub offer-mode-spec : {M : Type 1} → statement M
@@ -110,7 +110,7 @@ offer-mode-spec =
     mul-e
     element-copy-out-e
     cast-e
-    is-begun-requires
+    any-mark-requires
     mul-offer-tasks
     sub-offer-tasks
     part-offer-tasks-start

@@ -3,10 +3,9 @@ use mathlib.Core.Path.{refl}
 use Prim.Native.Nat.{_-_, _≤_}
 use native.Mathlib.Omega.{arith}
 use borrow.Author.Needs.{needs}
-use Rattle.figures.proofs.Offered.{not-both}
-use Rattle.bounds.proofs.Topping.{Unmarked, unmarked-more}
-use Rattle.bounds.proofs.any_mark.Statement.{statement}
-use Rattle.bounds.proofs.any_mark.Tie as tie
+use Rattle.figures.proofs.Offered.{not-both, Unmarked, unmarked-more}
+use Rattle.figures.proofs.any_mark.Statement.{statement}
+use Rattle.figures.proofs.any_mark.Tie as tie
 
 abbrev Inv-loop : tie.InvT-loop
 Inv-loop bits k a b t₀ t = (a ≤ t) × Unmarked bits k a t
