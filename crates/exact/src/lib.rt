@@ -37,24 +37,32 @@ const MEMORY_TOO_SMALL: u8 = 10;
 
 const WORK: usize = 16384;
 
+/// Whether the memory of each kind is enough.
+pub fn is_enough(modules: usize, horizon: usize, work: usize, tape: usize) -> bool
+    requires { ⌜ (modules ≤ 8) × (horizon ≤ 2000) ⌝ }
+    ensures { λ r. ⌜ r ≡ leb workNumbers work && leb (modules * horizon) tape ⌝ }
+{
+    if work < WORK {
+        return false;
+    }
+    if tape < modules * horizon {
+        return false;
+    }
+    true
+}
+
 // Too little memory of either kind refuses the call.
 fn tested(modules: usize, horizon: usize, work: usize, tape: usize) -> Asked
     requires { ⌜ (modules ≤ 8) × (horizon ≤ 2000) ⌝ }
     ensures { λ r. ⌜ r ≡ sound (leb workNumbers work && leb (modules * horizon) tape) modules horizon ⌝ }
 {
-    if work < WORK {
-        return Asked::Refused {
-            number: MEMORY_TOO_SMALL,
-            place: 0,
-        };
+    if is_enough(modules, horizon, work, tape) {
+        return Asked::Sound { modules, horizon };
     }
-    if tape < modules * horizon {
-        return Asked::Refused {
-            number: MEMORY_TOO_SMALL,
-            place: 0,
-        };
+    Asked::Refused {
+        number: MEMORY_TOO_SMALL,
+        place: 0,
     }
-    Asked::Sound { modules, horizon }
 }
 
 // Whether the exact test is refused, where so many numbers and so many bytes are lent.

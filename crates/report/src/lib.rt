@@ -42,10 +42,8 @@ enum Asked {
     },
 }
 
-// The refusal number of too little memory; the numbers in which a call works, and the bytes that hold any report.
+// The refusal number of too little memory, and the bytes that hold any report.
 const MEMORY_TOO_SMALL: u8 = 10;
-
-const WORK: usize = 16384;
 
 const OUT: usize = 16384;
 
@@ -54,13 +52,10 @@ fn enough(modules: usize, horizon: usize, work: usize, tape: usize, out: usize) 
     requires { ⌜ (modules ≤ 8) × (horizon ≤ 2000) ⌝ }
     ensures { λ r. ⌜ r ≡ leb workNumbers work && leb (modules * horizon) tape && leb outBytes out ⌝ }
 {
-    if work < WORK {
-        return false;
+    if exact::is_enough(modules, horizon, work, tape) {
+        return OUT <= out;
     }
-    if tape < modules * horizon {
-        return false;
-    }
-    OUT <= out
+    false
 }
 
 // Whether the report is refused, where so many numbers and so many bytes are lent.

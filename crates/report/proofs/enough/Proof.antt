@@ -1,29 +1,17 @@
--- Each kind of memory is tested for its own. Assumes nothing.
-use Prim.Native.Nat.{_*_, _≤_}
-use native.Mathlib.Nat.{mul-le-mul}
-use native.Mathlib.Omega.{arith}
-use borrow.Author.Tests.{le-leb, lt-leb}
+-- What the exact test needs, and the output. Assumes nothing.
+use mathlib.Core.Path.{sym, _∙_}
+use borrow.Author.Needs.{needs}
 use Rattle.report.proofs.enough.Statement.{statement}
 use Rattle.report.proofs.enough.Tie as tie
 
-returns : tie.Need-returns
-returns c = rw (lt-leb 16384 (c .before .args .work) (c .if1 .taken))
+is-enough-requires : tie.Need-is-enough-requires
+is-enough-requires c κs = search needs
 
-mul-if2 : tie.Need-mul-if2
-mul-if2 c =
-    let a = c .before in
-    let most : a .args .modules * a .args .horizon ≤ 8 * 2000 = mul-le-mul {n₂ = 8} {m₂ = 2000} (a .pre .0) (a .pre .1) in
-    omega arith
+returns : tie.Need-returns
+returns c = rw (sym (c .before .is-enough .ensures) ∙ c .if1 .taken)
 
 returns-2 : tie.Need-returns-2
-returns-2 c =
-    let a = c .before .before .args in
-    rw (le-leb 16384 (a .work) (c .before .if1 .left), lt-leb (a .modules * a .horizon) (a .tape) (c .if2 .taken))
-
-returns-3 : tie.Need-returns-3
-returns-3 c =
-    let a = c .before .before .args in
-    rw (le-leb 16384 (a .work) (c .before .if1 .left), le-leb (a .modules * a .horizon) (a .tape) (c .if2 .left))
+returns-2 c = rw (sym (c .before .is-enough .ensures) ∙ c .if1 .left)
 
 pub enough-spec : {M : Type 1} → statement M
-enough-spec = tie.close (tie.spec returns mul-if2 returns-2 returns-3)
+enough-spec = tie.close (tie.spec is-enough-requires returns returns-2)
