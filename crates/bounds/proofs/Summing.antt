@@ -1,6 +1,6 @@
 -- The numbers at the lengths as the modules' bounds are added, one module after another: no sum exceeds them, and none is too large. Assumes nothing.
 use mathlib.Core.Path.{_≡_, refl, _∙_, ap}
-use mathlib.Core.List.{List, []}
+use mathlib.Core.List.{List}
 use Prim.Native.Nat.{ℕ, _+_, _-_, _*_, _≤_, _<_}
 use native.Mathlib.Omega.{arith}
 use lib.ListN.{length, take}
@@ -14,12 +14,9 @@ use Rattle.model.specs.Demand.{value}
 use Rattle.model.specs.Verdict.{exactSum}
 use Rattle.layers.specs.Step.{look, Cleared}
 use Rattle.sums.specs.Sums.{Fits}
+use Rattle.quick.proofs.Sums.{absent}
 use Rattle.quick.proofs.Summing.{sum-more}
 use Rattle.bounds.specs.Bounds.{ModuleAdded, SumsBounded}
-
--- what a number that no module has names
-abbrev pub absent : Module
-absent = record { modes = [] }
 
 -- no sum over the first k modules exceeds the number at its length, which is at most 32,000 for each of them
 pub record BoundedTo (s : Sheet) (k lo width stop : ℕ) (w w′ : List ℕ) : Type 0 where

@@ -25,7 +25,7 @@ abbrev sumTo : Sheet → ℕ → ℕ → ℕ
 sumTo s k L = sumOf (λ m. moduleDemand m L) (take k (s .modules))
 
 -- what a number that no module has names
-abbrev absent : Module
+abbrev pub absent : Module
 absent = record { modes = [] }
 
 -- at each length up to n that sum stands

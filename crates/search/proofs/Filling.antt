@@ -20,7 +20,7 @@ use Rattle.cells.proofs.Rows.{row-inside}
 use Rattle.tiles.specs.Tiles.{CellsFit, ModuleAdded}
 use Rattle.tiles.proofs.Rows.{question-same, cell-same}
 use Rattle.tiles.proofs.Parts.{within-none, within-wider, within-then}
-use Rattle.bounds.proofs.Summing.{absent}
+use Rattle.quick.proofs.Sums.{absent}
 use Rattle.search.specs.Search.{Kept, CellsOf, Filled}
 use Rattle.search.proofs.Keeping.{same}
 

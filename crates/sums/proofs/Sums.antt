@@ -1,7 +1,7 @@
 -- The layer of a module step by step, what bounds it, and the row of sums as the demands of a module are added. Assumes nothing.
 use mathlib.Core.Path.{_≡_, refl, sym, ap, _∙_, subst}
 use mathlib.Core.List.{List, _++_}
-use Prim.Native.Nat.{ℕ, zero, suc, _+_, _*_, _^_, _≤_, _<_}
+use Prim.Native.Nat.{ℕ, _+_, _*_, _^_, _≤_, _<_}
 use native.Mathlib.Decide.{decLe}
 use native.Mathlib.Omega.{arith}
 use lib.ListN.{length, take, set, length-set}
@@ -17,6 +17,7 @@ use Rattle.layers.specs.declared.Shape.{Shape}
 use Rattle.layers.specs.Step.{look, total, period, Cleared}
 use Rattle.layers.specs.Layer.{Layer, Told, Tells, IsLayer, Advanced}
 use Rattle.layers.proofs.Sums.{sum-before}
+use Rattle.layers.proofs.Turns.{maxBelow-le}
 use Rattle.layers.proofs.Bounds.{states-bound}
 use Rattle.layers.proofs.Parts.{cleared-at, back-below, back-above}
 use Rattle.layers.proofs.Layers.{states-told, layer-start, layer-largest}
@@ -24,13 +25,9 @@ use Rattle.sums.specs.Sums.{Layered, Reached, Demands, layerPart, Added,
 
 -- The demand of a module is at most 16 for each tick.
 
-maxBelow-most : (f : ℕ → ℕ) (c n : ℕ) → ((k : ℕ) → k < n → f k ≤ c) → maxBelow f n ≤ c
-maxBelow-most f c zero h = omega arith
-maxBelow-most f c (suc n) h = omega (arith, h n (omega arith), maxBelow-most f c n (λ k l. h k (omega arith)))
-
 pub demand-bound : (m : Module) → ModuleRule m → (L : ℕ) → moduleDemand m L ≤ 16 * L
 unfolding moduleDemand
-demand-bound m ok L = maxBelow-most _ (16 * L) (length (m .modes)) (λ k h. maxBelow-most _ (16 * L) (modeAt m k .period) (λ d i. omega (arith, value-bound m ok 0 L (at k d) i)))
+demand-bound m ok L = maxBelow-le _ (16 * L) (length (m .modes)) (λ k h. maxBelow-le _ (16 * L) (modeAt m k .period) (λ d i. omega (arith, value-bound m ok 0 L (at k d) i)))
 
 -- The layer's part, lent and back with ys in it.
 
