@@ -12,7 +12,7 @@ use Rattle.layers.specs.declared.Shape.{Shape}
 use Rattle.layers.specs.Step.{look}
 use Rattle.layers.specs.Layer.{Told, Tells}
 use Rattle.sums.specs.Sums.{Fits}
-use Rattle.cells.specs.Cells.{layerFrom, cellsFrom}
+use Rattle.memory.specs.Map.{layerFrom, cellsFrom}
 use Rattle.tiles.specs.Tiles.{Within}
 use Rattle.bounds.specs.Bounds.{Bound, Progressed, NextAdded, BoundsAdded, ModuleAdded}
 use Rattle.bounds.proofs.Bounding.{progress-kept}

@@ -15,13 +15,13 @@ use Rattle.model.specs.Demand.{value}
 use Rattle.model.proofs.Bounds.{value-bound}
 use Rattle.layers.specs.declared.Shape.{Shape}
 use Rattle.layers.specs.Layer.{Layer, Told, Each, Advanced}
-use Rattle.sums.specs.Sums.{layerPart}
+use Rattle.memory.specs.Map.{layerPart, marksPart}
 use Rattle.entries.proofs.Reaches.{reach-listed}
 use Rattle.entries.proofs.Figures.{figure-end, figure-step}
 use Rattle.marks.specs.Marks.{Marks}
 use Rattle.figures.specs.Offers.{Below, ShapeOffer}
 use Rattle.figures.proofs.Tiles.{offer-reached, reached-offer}
-use Rattle.tiles.specs.Tiles.{marksPart, Within, Begun}
+use Rattle.tiles.specs.Tiles.{Within, Begun}
 use Rattle.tiles.proofs.Parts.{part-behind}
 use Rattle.tiles.proofs.Steps.{advancing, next-layer, next-marks}
 use Rattle.bounds.specs.Tops.{Topped}

@@ -11,10 +11,9 @@ use Rattle.model.specs.Verdict.{exactSum}
 use Rattle.layers.specs.declared.Shape.{Shape}
 use Rattle.layers.specs.Step.{look}
 use Rattle.layers.specs.Layer.{Layer, Each}
-use Rattle.sums.specs.Sums.{layerPart}
+use Rattle.memory.specs.Map.{layerFrom, marksFrom, cellsFrom, layerPart, marksPart}
 use Rattle.marks.specs.Marks.{Marks}
-use Rattle.cells.specs.Cells.{layerFrom, marksFrom, cellsFrom}
-use Rattle.tiles.specs.Tiles.{marksPart, Within}
+use Rattle.tiles.specs.Tiles.{Within}
 
 -- One module.
 

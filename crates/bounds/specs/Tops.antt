@@ -2,7 +2,7 @@
 use mathlib.Core.List.{List, [], _∷_}
 use Prim.Native.Nat.{ℕ, _+_, _≤_, _<_}
 use lib.ListN.{length}
-use Rattle.marks.specs.Marks.{markNumbers}
+use Rattle.memory.specs.Map.{markNumbers}
 use Rattle.figures.specs.Offers.{Raised}
 
 -- r is the largest of g and of the numbers that P offers to one of so many ends: g is raised as a row of one number, to which all ends are one

@@ -9,13 +9,16 @@ ghost use Rattle.table.specs.Rows.{RowsOf};
 ghost use Rattle.layers.specs.Step.{look, TasksReady};
 ghost use Rattle.layers.specs.Layer.{Tells, Each, IsLayer};
 ghost use Rattle.sums.specs.Sums.{Fits};
-ghost use Rattle.marks.specs.Marks.{markNumbers};
+ghost use Rattle.memory.specs.Map.{markNumbers};
 ghost use Rattle.figures.specs.Offers.{Below, TickOffer, TimeOffer, TaskOffer, ModeOffer, ShapeOffer};
 ghost use Rattle.bounds.specs.Tops.{Topped, Room};
 ghost use Rattle.bounds.specs.Bounds.{Progress, Progressed, NextAdded, BoundsAdded, ModuleAdded, SumsBounded};
 use figures::any_mark;
 use figures::less;
 use layers::Shape;
+use memory::CELLS_FROM;
+use memory::LAYER_FROM;
+use memory::MARKS_FROM;
 
 // The best number, or v if it is larger and an end of the range is so many ticks after a mark of mode k.
 fn top_time(best: u32, v: u32, bits: &[u32], k: usize, lo: usize, width: usize, far: usize) -> u32
@@ -164,17 +167,17 @@ fn next_top(
     shape: Shape,
     numbers: &[u16],
 ) -> u32
-    requires { ⌜ (l < 2000) × (16384 ≤ length (now work)) × (lo + width ≤ 2001) × (Tells shape (now numbers)) × (Each shape (now numbers) (λ m. Progress m lo width l (now work) best)) ⌝ }
+    requires { ⌜ (l < 2000) × (workNumbers ≤ length (now work)) × (lo + width ≤ 2001) × (Tells shape (now numbers)) × (Each shape (now numbers) (λ m. Progress m lo width l (now work) best)) ⌝ }
     ensures { λ r. ⌜ Progressed shape (now (numbers .entry)) lo width (l + 1) r (now (work .entry)) (now (work .exit)) ⌝ }
 {
-    layers::advance(&mut work[2001..10193], l, shape, numbers);
+    layers::advance(&mut work[LAYER_FROM..MARKS_FROM], l, shape, numbers);
     top_module(
         best,
         lo,
         width,
         l + 1,
-        &work[2001..10193],
-        &work[10193..10697],
+        &work[LAYER_FROM..MARKS_FROM],
+        &work[MARKS_FROM..CELLS_FROM],
         shape,
         numbers,
     )
@@ -190,7 +193,7 @@ fn add_next(
     shape: Shape,
     numbers: &[u16],
 ) -> u32
-    requires { ⌜ (l < 2000) × (16384 ≤ length (now work)) × (lo + width ≤ 2001) × (look (now work) (l + 1) ≤ 7 * 32000) × (Tells shape (now numbers)) × (Each shape (now numbers) (λ m. Progress m lo width l (now work) best)) ⌝ }
+    requires { ⌜ (l < 2000) × (workNumbers ≤ length (now work)) × (lo + width ≤ 2001) × (look (now work) (l + 1) ≤ 7 * 32000) × (Tells shape (now numbers)) × (Each shape (now numbers) (λ m. Progress m lo width l (now work) best)) ⌝ }
     ensures { λ r. ⌜ NextAdded shape (now (numbers .entry)) lo width l r (now (work .entry)) (now (work .exit)) ⌝ }
 {
     let top = next_top(work, best, lo, width, l, shape, numbers);
@@ -208,7 +211,7 @@ fn add_lengths(
     shape: Shape,
     numbers: &[u16],
 )
-    requires { ⌜ (stop ≤ 2000) × (16384 ≤ length (now work)) × (lo + width ≤ 2001) × (Fits stop (now work)) × (Tells shape (now numbers)) × (Each shape (now numbers) (λ m. Progress m lo width 0 (now work) 0)) ⌝ }
+    requires { ⌜ (stop ≤ 2000) × (workNumbers ≤ length (now work)) × (lo + width ≤ 2001) × (Fits stop (now work)) × (Tells shape (now numbers)) × (Each shape (now numbers) (λ m. Progress m lo width 0 (now work) 0)) ⌝ }
     ensures { λ _. ⌜ BoundsAdded shape (now (numbers .entry)) lo width stop (now (work .entry)) (now (work .exit)) ⌝ }
 {
     let mut best = 0;
@@ -221,7 +224,7 @@ fn add_lengths(
 
 // One module's bounds are added to the numbers at the lengths from 1 to stop.
 fn add_bounds(work: &mut [u32], lo: usize, width: usize, stop: usize, shape: Shape, numbers: &[u16])
-    requires { ⌜ (stop ≤ 2000) × (16384 ≤ length (now work)) × (1 ≤ lo) × (lo + width ≤ 2001) × (Fits stop (now work)) × (Tells shape (now numbers)) ⌝ }
+    requires { ⌜ (stop ≤ 2000) × (workNumbers ≤ length (now work)) × (1 ≤ lo) × (lo + width ≤ 2001) × (Fits stop (now work)) × (Tells shape (now numbers)) ⌝ }
     ensures { λ _. ⌜ BoundsAdded shape (now (numbers .entry)) lo width stop (now (work .entry)) (now (work .exit)) ⌝ }
 {
     tiles::begin(work, lo + width - 1, shape);

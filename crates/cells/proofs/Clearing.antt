@@ -8,7 +8,8 @@ use borrow.Rule.Slice.PartMut.{putMid, midOf, same-len-mid}
 use Rattle.model.specs.Limits.{workNumbers}
 use Rattle.layers.specs.Step.{look, Cleared}
 use Rattle.layers.proofs.Parts.{part-length, back-here, back-below, back-above}
-use Rattle.cells.specs.Cells.{cellsFrom, CellsCleared}
+use Rattle.memory.specs.Map.{cellsFrom}
+use Rattle.cells.specs.Cells.{CellsCleared}
 
 module _ (w ys : List ℕ) (room : workNumbers ≤ length w) (c : Cleared 5687 (midOf cellsFrom 5687 w) ys) where
   size : length ys ≡ 5687

@@ -11,7 +11,8 @@ use Rattle.model.specs.Lists.{when}
 use Rattle.model.specs.Limits.{workNumbers}
 use Rattle.model.specs.Verdict.{Exact, exactPick, orElse, exactAt, exactFrom}
 use Rattle.layers.specs.Step.{look}
-use Rattle.cells.specs.Cells.{cellsFrom, cellAt, Tile, Holding}
+use Rattle.memory.specs.Map.{cellsFrom}
+use Rattle.cells.specs.Cells.{cellAt, Tile, Holding}
 use Rattle.cells.proofs.Rows.{rows-none, cell-more, row-inside}
 
 module _ (f : ℕ → ℕ → ℕ) (b : ℕ) where

@@ -8,20 +8,10 @@ use lib.ListN.{length}
 use Rattle.model.specs.Lists.{when}
 use Rattle.model.specs.Limits.{workNumbers}
 use Rattle.model.specs.Verdict.{Exact}
+use Rattle.memory.specs.Map.{cellsFrom}
 use Rattle.layers.specs.Step.{look}
 use Rattle.cells.specs.declared.Found.{Found}
 use Rattle.cells.specs.declared.Found.the-variants.{Clear, At}
-
--- The working memory of the search: a bound on the sums of the length L at L, up to 2,000; behind them one module's layer, its marks, and the cells.
-
-abbrev pub layerFrom : ℕ
-layerFrom = 2001
-
-abbrev pub marksFrom : ℕ
-marksFrom = 10193
-
-abbrev pub cellsFrom : ℕ
-cellsFrom = 10697
 
 -- a length is in question where its bound exceeds it
 abbrev pub inQuestion : List ℕ → ℕ → Bool

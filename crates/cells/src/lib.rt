@@ -3,13 +3,14 @@ ghost use mathlib.Core.Path.{_≡_};
 ghost use Prim.Native.Nat.{ℕ, _+_, _≤_, _<_};
 ghost use lib.ListN.{length};
 ghost use Rattle.model.specs.Lists.{when};
+ghost use Rattle.model.specs.Limits.{workNumbers};
 ghost use Rattle.model.specs.Verdict.{exactAt, exactFrom};
 ghost use Rattle.cells.specs.Cells.{inQuestion, rows, Longest, Tile, Holding, CellsCleared, foundOf};
+use memory::CELLS_FROM;
+use memory::WORK_NUMBERS;
 
-// Where the cells begin in the working memory.
-const CELLS_FROM: usize = 10697;
-// How many cells there are.
-const CELLS: usize = 5687;
+// How many cells there are: up to the end of the working memory.
+const CELLS: usize = WORK_NUMBERS - CELLS_FROM;
 
 // Whether an interval of the tile is over: the first one found, with its sum.
 pub enum Found {
@@ -56,7 +57,7 @@ fn rows_to(work: &[u32], n: usize) -> usize
 
 // How many ends the next tile takes: as many as the cells have room for, at most 512, and at least one.
 pub fn width_at(work: &[u32], lo: usize, horizon: usize) -> usize
-    requires { ⌜ (1 ≤ lo) × (lo ≤ horizon) × (horizon ≤ 2000) × (16384 ≤ length (now work)) ⌝ }
+    requires { ⌜ (1 ≤ lo) × (lo ≤ horizon) × (horizon ≤ 2000) × (workNumbers ≤ length (now work)) ⌝ }
     ensures { λ r. ⌜ (Tile (now (work .entry)) lo r) × (1 ≤ r) × (lo + r ≤ horizon + 1) ⌝ }
 {
     let mut count = rows_to(work, lo);
@@ -73,7 +74,7 @@ pub fn width_at(work: &[u32], lo: usize, horizon: usize) -> usize
 
 // All cells become 0.
 pub fn clear_cells(work: &mut [u32])
-    requires { ⌜ 16384 ≤ length (now work) ⌝ }
+    requires { ⌜ workNumbers ≤ length (now work) ⌝ }
     ensures { λ _. ⌜ CellsCleared (now (work .entry)) (now (work .exit)) ⌝ }
 {
     layers::clear(&mut work[CELLS_FROM..CELLS_FROM + CELLS], CELLS);

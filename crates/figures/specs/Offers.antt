@@ -7,7 +7,8 @@ use Prim.Native.Nat.{ℕ, _+_, _*_, _/_, _%_, _≤_, _<_}
 use lib.ListN.{length, take, drop}
 use Rattle.layers.specs.declared.Shape.{Shape}
 use Rattle.layers.specs.Step.{look, total, period, tasksOf}
-use Rattle.marks.specs.Marks.{markNumbers, marked}
+use Rattle.memory.specs.Map.{markNumbers}
+use Rattle.marks.specs.Marks.{marked}
 
 -- w′ holds at each position the largest of what w held and of the numbers v that P offers there
 pub record Raised (P : ℕ → ℕ → Type 0) (w w′ : List ℕ) : Type 0 where

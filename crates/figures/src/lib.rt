@@ -5,12 +5,14 @@ ghost use Prim.Native.Nat.{ℕ, _+_, _-_, _*_, _/_, _^_, _<_, _≤_};
 ghost use lib.ListN.{length};
 ghost use Rattle.layers.specs.Step.{look, total, period, TasksReady, ModeReady};
 ghost use Rattle.layers.specs.Layer.{IsLayer};
-ghost use Rattle.marks.specs.Marks.{markNumbers};
+ghost use Rattle.memory.specs.Map.{markNumbers};
+ghost use Rattle.marks.specs.Marking.{rowTicks};
 ghost use Rattle.figures.specs.Figures.{Grown, Added};
 ghost use Rattle.figures.specs.Offers.{Raised, TickOffer, TimeOffer, TaskOffer, ModeOffer, ShapeOffer, Quiet, AnyMark, Room};
 use layers::Shape;
 use layers::larger;
 use layers::smaller;
+use memory::ROW_NUMBERS;
 
 // a less b, and 0 where b is more.
 pub fn less(a: usize, b: usize) -> usize
@@ -21,16 +23,16 @@ pub fn less(a: usize, b: usize) -> usize
 
 // How many ticks from t on are known to bear no mark of mode k: 0 exactly where t bears one.
 fn quiet(bits: &[u32], k: usize, t: usize) -> usize
-    requires { ⌜ (k < 8) × (t < 2016) × (markNumbers ≤ length (now bits)) ⌝ }
+    requires { ⌜ (k < 8) × (t < rowTicks) × (markNumbers ≤ length (now bits)) ⌝ }
     ensures { λ r. ⌜ Quiet (now (bits .entry)) k t r ⌝ }
 {
-    let rest = bits[63 * k + t / 32] >> (t % 32);
+    let rest = bits[ROW_NUMBERS * k + t / 32] >> (t % 32);
     smaller(u32::trailing_zeros(rest) as usize, 32 - t % 32)
 }
 
 // Whether a tick from a on and before b bears a mark of mode k.
 pub fn any_mark(bits: &[u32], k: usize, a: usize, b: usize) -> bool
-    requires { ⌜ (k < 8) × (b ≤ 2016) × (markNumbers ≤ length (now bits)) ⌝ }
+    requires { ⌜ (k < 8) × (b ≤ rowTicks) × (markNumbers ≤ length (now bits)) ⌝ }
     ensures { λ r. ⌜ AnyMark (now (bits .entry)) k a b r ⌝ }
 {
     let mut t = a;
@@ -156,7 +158,7 @@ fn offer_mode(
     let to = from + shape.periods[k] as usize;
     let a = shape.starts[k] as usize;
     let e = shape.starts[k + 1] as usize;
-    if any_mark(bits, k, 0, 2016) {
+    if any_mark(bits, k, 0, 32 * ROW_NUMBERS) {
         offer_tasks(fig, &layer[from..to], &numbers[a..e], bits, k, lo, l);
     }
     to

@@ -5,17 +5,19 @@ use mathlib.Core.List.{List}
 use Prim.Native.Nat.{ℕ, _+_, _-_, _*_, _/_, _%_, _≤_, _<_}
 use lib.Dec.{eqb}
 use lib.ListN.{length}
+use Rattle.model.specs.Limits.{workNumbers}
 use Rattle.model.specs.Sheet.{Module}
 use Rattle.model.specs.WellFormed.{ModuleRule}
 use Rattle.model.specs.Run.{State, at}
 use Rattle.model.specs.Demand.{value}
+use Rattle.memory.specs.Map.{headsFrom}
 use Rattle.layers.specs.declared.Shape.{Shape}
 use Rattle.layers.specs.Step.{look}
 use Rattle.layers.specs.Layer.{Told, Each, Holds}
 
--- where the heads of the modes 2 * i and 2 * i + 1 at tick t stand, both in one number: behind the layer, which takes at most 8,192
+-- where the heads of the modes 2 * i and 2 * i + 1 at tick t stand, both in one number
 abbrev pub pairAt : ℕ → ℕ → ℕ
-pairAt t i = 8192 + (4 * t + i)
+pairAt t i = headsFrom + (4 * t + i)
 
 -- the head of the mode j at tick t
 unfoldable pub headOf : List ℕ → ℕ → ℕ → ℕ
@@ -63,4 +65,4 @@ pub record Reached (s : Shape) (numbers : List ℕ) (a b t : ℕ) (w : List ℕ)
 -- the numbers of the working memory from the 16,384th on are as they were
 pub record Kept (w w′ : List ℕ) : Type 0 where
   pub len : length w′ ≡ length w
-  pub above : (x : ℕ) → 16384 ≤ x → look w′ x ≡ look w x
+  pub above : (x : ℕ) → workNumbers ≤ x → look w′ x ≡ look w x

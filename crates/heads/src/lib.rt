@@ -3,12 +3,14 @@ ghost use mathlib.Core.Path.{_≡_};
 ghost use mathlib.Core.List.{List};
 ghost use Prim.Native.Nat.{ℕ, _+_, _*_, _/_, _%_, _<_, _≤_};
 ghost use lib.ListN.{length, set};
+ghost use Rattle.model.specs.Limits.{workNumbers};
 ghost use Rattle.model.specs.Run.{at, gain};
 ghost use Rattle.layers.specs.Step.{look, sumBelow, due, TasksReady};
 ghost use Rattle.layers.specs.Layer.{Tells, Each};
 ghost use Rattle.following.specs.Follow.{counted};
 ghost use Rattle.heads.specs.Heads.{headOf, Filled, Packed, Noted, Reached, Kept};
 use layers::Shape;
+use memory::HEADS_FROM;
 
 // Within how many ticks an instance released at tick t must be due to count in the interval.
 pub fn counted_at(a: usize, b: usize, t: usize) -> usize
@@ -72,19 +74,19 @@ fn put_pair(work: &mut [u32], at: usize, low: u32, high: u32)
 
 // The heads of tick t.
 fn pack(work: &mut [u32], t: usize, tops: &[u32; 8])
-    requires { ⌜ (t ≤ 2000) × (16384 ≤ length (now work)) ⌝ }
+    requires { ⌜ (t ≤ 2000) × (workNumbers ≤ length (now work)) ⌝ }
     ensures { λ _. ⌜ Packed t 4 (now (tops .entry)) (now (work .entry)) (now (work .exit)) ⌝ }
 {
     let mut i = 0;
     while i < 4 {
-        put_pair(work, 8192 + (4 * t + i), tops[2 * i], tops[2 * i + 1]);
+        put_pair(work, HEADS_FROM + (4 * t + i), tops[2 * i], tops[2 * i + 1]);
         i += 1;
     }
 }
 
 // The heads of tick t are those of the layer after n steps.
 fn note_heads(work: &mut [u32], t: usize, n: usize, shape: Shape)
-    requires { ⌜ ((numbers : List ℕ) × Tells shape numbers) × (t ≤ 2000) × (16384 ≤ length (now work)) ⌝ }
+    requires { ⌜ ((numbers : List ℕ) × Tells shape numbers) × (t ≤ 2000) × (workNumbers ≤ length (now work)) ⌝ }
     ensures { λ _. ⌜ Noted shape t n (now (work .entry)) (now (work .exit)) ⌝ }
 {
     let tops = layers::heads(work, n, shape);
@@ -93,7 +95,7 @@ fn note_heads(work: &mut [u32], t: usize, n: usize, shape: Shape)
 
 // At the end nothing is due.
 fn begin_at(work: &mut [u32], a: usize, b: usize, shape: Shape, numbers: &[u16])
-    requires { ⌜ (Tells shape (now numbers)) × (b ≤ 2000) × (16384 ≤ length (now work)) ⌝ }
+    requires { ⌜ (Tells shape (now numbers)) × (b ≤ 2000) × (workNumbers ≤ length (now work)) ⌝ }
     ensures { λ _. ⌜ (Reached shape (now (numbers .entry)) a b b (now (work .exit))) × (Kept (now (work .entry)) (now (work .exit))) ⌝ }
 {
     let n = shape.modes;
@@ -104,7 +106,7 @@ fn begin_at(work: &mut [u32], a: usize, b: usize, shape: Shape, numbers: &[u16])
 
 // One tick back, to tick t.
 fn back_to(work: &mut [u32], a: usize, b: usize, t: usize, shape: Shape, numbers: &[u16])
-    requires { ⌜ (Tells shape (now numbers)) × (t < b) × (b ≤ 2000) × (16384 ≤ length (now work)) × (Reached shape (now numbers) a b (t + 1) (now work)) ⌝ }
+    requires { ⌜ (Tells shape (now numbers)) × (t < b) × (b ≤ 2000) × (workNumbers ≤ length (now work)) × (Reached shape (now numbers) a b (t + 1) (now work)) ⌝ }
     ensures { λ _. ⌜ (Reached shape (now (numbers .entry)) a b t (now (work .exit))) × (Kept (now (work .entry)) (now (work .exit))) ⌝ }
 {
     layers::advance_by(work, counted_at(a, b, t), b - t - 1, shape, numbers);
@@ -113,7 +115,7 @@ fn back_to(work: &mut [u32], a: usize, b: usize, t: usize, shape: Shape, numbers
 
 // The heads of all ticks. The numbers of the working memory from the 16,384th on stay.
 pub fn fill_heads(work: &mut [u32], a: usize, b: usize, shape: Shape, numbers: &[u16])
-    requires { ⌜ (Tells shape (now numbers)) × (b ≤ 2000) × (16384 ≤ length (now work)) ⌝ }
+    requires { ⌜ (Tells shape (now numbers)) × (b ≤ 2000) × (workNumbers ≤ length (now work)) ⌝ }
     ensures { λ _. ⌜ (Filled shape (now (numbers .entry)) a b (now (work .exit))) × (Kept (now (work .entry)) (now (work .exit))) ⌝ }
 {
     begin_at(work, a, b, shape, numbers);
@@ -126,10 +128,10 @@ pub fn fill_heads(work: &mut [u32], a: usize, b: usize, shape: Shape, numbers: &
 
 // The head of mode j at tick t.
 pub fn head(work: &[u32], t: usize, j: usize) -> u32
-    requires { ⌜ (t ≤ 2000) × (j < 8) × (16384 ≤ length (now work)) ⌝ }
+    requires { ⌜ (t ≤ 2000) × (j < 8) × (workNumbers ≤ length (now work)) ⌝ }
     ensures { λ r. ⌜ (r ≡ headOf (now (work .entry)) t j) × (r < 65536) ⌝ }
 {
-    let pair = work[8192 + (4 * t + j / 2)];
+    let pair = work[HEADS_FROM + (4 * t + j / 2)];
     if j % 2 == 0 {
         return pair % 65536;
     }

@@ -205,7 +205,7 @@ impl Sheet {
     pub const MAX_BYTES: usize = 3624;
 
     // The lent working memory.
-    pub const WORK_NUMBERS: usize = 16384;
+    pub const WORK_NUMBERS: usize = memory::WORK_NUMBERS;
 
     // The two limits that no test of a record names.
     pub fn most_bytes() -> usize

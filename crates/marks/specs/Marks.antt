@@ -1,4 +1,4 @@
--- The ticks at which the modes of a module can be begun, as bits: a row of 63 numbers for each mode, 32 ticks in a number. Assumes nothing.
+-- The ticks at which the modes of a module can be begun, as bits: a row of numbers for each mode, 32 ticks in a number. Assumes nothing.
 use mathlib.Core.Path.{_≡_}
 use mathlib.Core.Bool.{Bool, true}
 use mathlib.Core.List.{List}
@@ -6,15 +6,12 @@ use Prim.Native.Nat.{ℕ, _+_, _*_, _/_, _%_, _^_, _≤_, _<_}
 use lib.Dec.{eqb}
 use lib.ListN.{length, getD}
 use Rattle.model.specs.Sheet.{Module}
+use Rattle.memory.specs.Map.{rowNumbers}
 use Rattle.entries.specs.Entry.{Entry}
-
--- the numbers of eight rows
-abbrev pub markNumbers : ℕ
-markNumbers = 504
 
 -- tick t of the mode k is marked
 abbrev pub marked : List ℕ → ℕ → ℕ → Bool
-marked bits k t = eqb (getD bits (63 * k + t / 32) 0 / 2 ^ (t % 32) % 2) 1
+marked bits k t = eqb (getD bits (rowNumbers * k + t / 32) 0 / 2 ^ (t % 32) % 2) 1
 
 -- up to the horizon the marks are the entries
 pub record Marks (m : Module) (horizon : ℕ) (bits : List ℕ) : Type 0 where

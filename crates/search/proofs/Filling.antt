@@ -15,7 +15,8 @@ use Rattle.model.proofs.Bounds.{value-bound}
 use Rattle.layers.specs.declared.Shape.{Shape}
 use Rattle.layers.specs.Layer.{Told}
 use Rattle.quick.proofs.Summing.{sum-more, sum-most}
-use Rattle.cells.specs.Cells.{layerFrom, Tile, CellsCleared}
+use Rattle.memory.specs.Map.{layerFrom}
+use Rattle.cells.specs.Cells.{Tile, CellsCleared}
 use Rattle.cells.proofs.Rows.{row-inside}
 use Rattle.tiles.specs.Tiles.{CellsFit, ModuleAdded}
 use Rattle.tiles.proofs.Rows.{question-same, cell-same}

@@ -5,7 +5,8 @@ use Prim.Native.Nat.{ℕ, _+_, _≤_}
 use native.Mathlib.Omega.{arith}
 use Rattle.model.specs.Sheet.{Sheet}
 use Rattle.layers.specs.Step.{look}
-use Rattle.cells.specs.Cells.{layerFrom, Longest, Tile}
+use Rattle.memory.specs.Map.{layerFrom}
+use Rattle.cells.specs.Cells.{Longest, Tile}
 use Rattle.tiles.specs.Tiles.{Within}
 use Rattle.tiles.proofs.Rows.{question-same, longest-same, tile-same}
 use Rattle.search.specs.Search.{Passed}

@@ -13,7 +13,8 @@ use Rattle.model.specs.Demand.{value}
 use Rattle.model.specs.Verdict.{Exact, exactSum}
 use Rattle.layers.specs.Step.{look}
 use Rattle.cells.specs.declared.Found.{Found}
-use Rattle.cells.specs.Cells.{layerFrom, inQuestion, cellAt, foundOf}
+use Rattle.memory.specs.Map.{layerFrom}
+use Rattle.cells.specs.Cells.{inQuestion, cellAt, foundOf}
 use Rattle.tiles.specs.Tiles.{Within}
 
 -- of the intervals with one of so many ends from lo on none is over whose length is not in question

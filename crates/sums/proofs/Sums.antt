@@ -21,7 +21,8 @@ use Rattle.layers.proofs.Turns.{maxBelow-le}
 use Rattle.layers.proofs.Bounds.{states-bound}
 use Rattle.layers.proofs.Parts.{cleared-at, back-below, back-above}
 use Rattle.layers.proofs.Layers.{states-told, layer-start, layer-largest}
-use Rattle.sums.specs.Sums.{Layered, Reached, Demands, layerPart, Added, Beside, Summed}
+use Rattle.memory.specs.Map.{layerPart}
+use Rattle.sums.specs.Sums.{Layered, Reached, Demands, Added, Beside, Summed}
 
 -- The demand of a module is at most 16 for each tick.
 

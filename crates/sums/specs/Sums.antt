@@ -2,11 +2,12 @@
 use mathlib.Core.Path.{_≡_}
 use mathlib.Core.List.{List}
 use Prim.Native.Nat.{ℕ, _+_, _*_, _≤_, _<_}
-use lib.ListN.{length, take, drop}
+use lib.ListN.{length}
 use Rattle.model.specs.Sheet.{Module}
 use Rattle.model.specs.WellFormed.{ModuleRule}
 use Rattle.model.specs.Demand.{moduleDemand}
 use Rattle.model.specs.Verdict.{Quick}
+use Rattle.memory.specs.Map.{marksFrom, layerPart}
 use Rattle.layers.specs.declared.Shape.{Shape}
 use Rattle.layers.specs.Step.{look, total}
 use Rattle.layers.specs.Layer.{Layer, Told, Each}
@@ -29,9 +30,6 @@ Demands s numbers L v = Each s numbers (λ m. v ≡ moduleDemand m L)
 
 -- The row of sums: of each length L at L, up to 2,000; behind it the part where a layer is worked out.
 
-abbrev pub layerPart : List ℕ → List ℕ
-layerPart w = take 8192 (drop 2001 w)
-
 -- each sum is at most that of seven modules, whose demands are at most 16 for each of 2,000 ticks
 abbrev pub Fits : ℕ → List ℕ → Type 0
 Fits horizon w = (L : ℕ) → 1 ≤ L → L ≤ horizon → look w L ≤ 7 * 32000
@@ -42,14 +40,14 @@ pub record Added (s : Shape) (numbers : List ℕ) (L : ℕ) (w w′ : List ℕ) 
   pub layer : Layered s numbers (L + 1) (layerPart w′)
   pub sum : (m : Module) → ModuleRule m → Told m s numbers → look w′ (L + 1) ≡ look w (L + 1) + moduleDemand m (L + 1)
   pub others : (x : ℕ) → x ≤ 2000 → (x ≡ L + 1 → ⊥) → look w′ x ≡ look w x
-  pub above : (x : ℕ) → 10193 ≤ x → look w′ x ≡ look w x
+  pub above : (x : ℕ) → marksFrom ≤ x → look w′ x ≡ look w x
 
 -- what neither the sums from 1 to n nor the layer's part hold is as it was
 pub record Beside (n : ℕ) (w w′ : List ℕ) : Type 0 where
   pub len : length w′ ≡ length w
   pub first : look w′ 0 ≡ look w 0
   pub later : (x : ℕ) → n < x → x ≤ 2000 → look w′ x ≡ look w x
-  pub above : (x : ℕ) → 10193 ≤ x → look w′ x ≡ look w x
+  pub above : (x : ℕ) → marksFrom ≤ x → look w′ x ≡ look w x
 
 -- to the sums from 1 to n the demands of whichever module the numbers tell are added
 pub record Summed (s : Shape) (numbers : List ℕ) (n : ℕ) (w w′ : List ℕ) : Type 0 where

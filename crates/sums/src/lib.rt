@@ -2,6 +2,7 @@
 ghost use mathlib.Core.Path.{_≡_};
 ghost use Prim.Native.Nat.{_+_, _*_, _<_, _≤_};
 ghost use lib.ListN.{length};
+ghost use Rattle.model.specs.Limits.{workNumbers};
 ghost use Rattle.model.specs.Sheet.{Module};
 ghost use Rattle.model.specs.WellFormed.{ModuleRule};
 ghost use Rattle.model.specs.Run.{at};
@@ -9,8 +10,11 @@ ghost use Rattle.model.specs.Demand.{value};
 ghost use Rattle.model.specs.Verdict.{quickFrom};
 ghost use Rattle.layers.specs.Step.{look, total, period, Cleared};
 ghost use Rattle.layers.specs.Layer.{Told, Tells};
-ghost use Rattle.sums.specs.Sums.{Layered, Reached, Demands, layerPart, Fits, Added, Summed, quickOf};
+ghost use Rattle.memory.specs.Map.{layerNumbers, layerPart};
+ghost use Rattle.sums.specs.Sums.{Layered, Reached, Demands, Fits, Added, Summed, quickOf};
 use layers::Shape;
+use memory::LAYER_FROM;
+use memory::MARKS_FROM;
 
 // Whether a sum exceeds its length: the first length that has one, with its sum.
 pub enum Over {
@@ -30,7 +34,7 @@ fn states_of(shape: Shape) -> usize
 
 // The layer for l ticks. What lies past the module's states stays.
 pub fn run_to(layer: &mut [u32], l: usize, shape: Shape, numbers: &[u16])
-    requires { ⌜ (l ≤ 2000) × (8192 ≤ length (now layer)) × (Tells shape (now numbers)) ⌝ }
+    requires { ⌜ (l ≤ 2000) × (layerNumbers ≤ length (now layer)) × (Tells shape (now numbers)) ⌝ }
     ensures { λ _. ⌜ Reached shape (now (numbers .entry)) l (now (layer .entry)) (now (layer .exit)) ⌝ }
 {
     layers::clear(layer, states_of(shape));
@@ -50,7 +54,7 @@ pub fn demand_at(
     k: usize,
     d: usize,
 ) -> u32
-    requires { ⌜ (l ≤ 2000) × (8192 ≤ length (now layer)) × (k < shape .modes) × (d < period shape k) × (Tells shape (now numbers)) ⌝ }
+    requires { ⌜ (l ≤ 2000) × (layerNumbers ≤ length (now layer)) × (k < shape .modes) × (d < period shape k) × (Tells shape (now numbers)) ⌝ }
     ensures { λ r. ⌜ ((m : Module) → ModuleRule m → Told m shape (now (numbers .entry)) → r ≡ value m 0 l (at k d)) ⌝ }
 {
     run_to(layer, l, shape, numbers);
@@ -61,7 +65,7 @@ pub fn demand_at(
 
 // The largest demand in l ticks from any state.
 pub fn largest_demand(layer: &mut [u32], l: usize, shape: Shape, numbers: &[u16]) -> u32
-    requires { ⌜ (l ≤ 2000) × (8192 ≤ length (now layer)) × (Tells shape (now numbers)) ⌝ }
+    requires { ⌜ (l ≤ 2000) × (layerNumbers ≤ length (now layer)) × (Tells shape (now numbers)) ⌝ }
     ensures { λ r. ⌜ Demands shape (now (numbers .entry)) l r ⌝ }
 {
     run_to(layer, l, shape, numbers);
@@ -70,7 +74,7 @@ pub fn largest_demand(layer: &mut [u32], l: usize, shape: Shape, numbers: &[u16]
 
 // The layer for l ticks becomes that for l + 1; the demand in l + 1 ticks is handed back.
 fn next_demand(layer: &mut [u32], l: usize, shape: Shape, numbers: &[u16]) -> u32
-    requires { ⌜ (l < 2000) × (8192 ≤ length (now layer)) × (Tells shape (now numbers)) × (Layered shape (now numbers) l (now layer)) ⌝ }
+    requires { ⌜ (l < 2000) × (layerNumbers ≤ length (now layer)) × (Tells shape (now numbers)) × (Layered shape (now numbers) l (now layer)) ⌝ }
     ensures { λ r. ⌜ (length (now (layer .exit)) ≡ length (now (layer .entry))) × (Layered shape (now (numbers .entry)) (l + 1) (now (layer .exit))) × (Demands shape (now (numbers .entry)) (l + 1) r) ⌝ }
 {
     layers::advance(layer, l, shape, numbers);
@@ -79,20 +83,20 @@ fn next_demand(layer: &mut [u32], l: usize, shape: Shape, numbers: &[u16]) -> u3
 
 // The demand in l + 1 ticks is added to its sum.
 fn add_next(work: &mut [u32], l: usize, shape: Shape, numbers: &[u16])
-    requires { ⌜ (l < 2000) × (16384 ≤ length (now work)) × (look (now work) (l + 1) ≤ 7 * 32000) × (Tells shape (now numbers)) × (Layered shape (now numbers) l (layerPart (now work))) ⌝ }
+    requires { ⌜ (l < 2000) × (workNumbers ≤ length (now work)) × (look (now work) (l + 1) ≤ 7 * 32000) × (Tells shape (now numbers)) × (Layered shape (now numbers) l (layerPart (now work))) ⌝ }
     ensures { λ _. ⌜ Added shape (now (numbers .entry)) l (now (work .entry)) (now (work .exit)) ⌝ }
 {
-    let more = next_demand(&mut work[2001..10193], l, shape, numbers);
+    let more = next_demand(&mut work[LAYER_FROM..MARKS_FROM], l, shape, numbers);
     let at = l + 1;
     work[at] = work[at] + more;
 }
 
 // To the sum of each length from 1 to the horizon the demand in so many ticks is added. The layer stands behind the sums.
 pub fn add_demands(work: &mut [u32], horizon: usize, shape: Shape, numbers: &[u16])
-    requires { ⌜ (horizon ≤ 2000) × (16384 ≤ length (now work)) × (Fits horizon (now work)) × (Tells shape (now numbers)) ⌝ }
+    requires { ⌜ (horizon ≤ 2000) × (workNumbers ≤ length (now work)) × (Fits horizon (now work)) × (Tells shape (now numbers)) ⌝ }
     ensures { λ _. ⌜ Summed shape (now (numbers .entry)) horizon (now (work .entry)) (now (work .exit)) ⌝ }
 {
-    layers::clear(&mut work[2001..10193], states_of(shape));
+    layers::clear(&mut work[LAYER_FROM..MARKS_FROM], states_of(shape));
     let mut l = 0;
     while l < horizon {
         add_next(work, l, shape, numbers);

@@ -6,6 +6,7 @@ ghost use Prim.Native.Nat.{ℕ, _+_, _-_, _%_, _<_, _≤_, max};
 ghost use lib.Dec.{eqb};
 ghost use lib.ListN.{length};
 ghost use Rattle.model.specs.Lists.{when, maxOf, maxBelow};
+ghost use Rattle.model.specs.Limits.{workNumbers};
 ghost use Rattle.model.specs.Sheet.{Module};
 ghost use Rattle.model.specs.WellFormed.{ModuleRule};
 ghost use Rattle.model.specs.Run.{State as Moment, at, gain, Next};
@@ -79,7 +80,7 @@ fn begins(s: State, shape: Shape, j: usize) -> bool
 
 // The head of mode j at tick t, where that mode can be begun one tick after s, which is at tick t - 1.
 fn offer(work: &[u32], t: usize, s: State, shape: Shape, j: usize) -> u32
-    requires { ⌜ ((numbers : List ℕ) × Tells shape numbers) × (Within shape s) × (j < shape .modes) × (t ≤ 2000) × (16384 ≤ length (now work)) ⌝ }
+    requires { ⌜ ((numbers : List ℕ) × Tells shape numbers) × (Within shape s) × (j < shape .modes) × (t ≤ 2000) × (workNumbers ≤ length (now work)) ⌝ }
     ensures { λ r. ⌜ (r < 65536) × (EachAt shape t (now (work .entry)) (λ m f. r ≡ when (opens m (the s) j) (f (at j 0)))) ⌝ }
 {
     if begins(s, shape, j) {
@@ -90,7 +91,7 @@ fn offer(work: &[u32], t: usize, s: State, shape: Shape, j: usize) -> u32
 
 // The largest of these heads.
 fn offers(work: &[u32], t: usize, s: State, shape: Shape) -> u32
-    requires { ⌜ ((numbers : List ℕ) × Tells shape numbers) × (Within shape s) × (t ≤ 2000) × (16384 ≤ length (now work)) ⌝ }
+    requires { ⌜ ((numbers : List ℕ) × Tells shape numbers) × (Within shape s) × (t ≤ 2000) × (workNumbers ≤ length (now work)) ⌝ }
     ensures { λ r. ⌜ (r < 65536) × (EachAt shape t (now (work .entry)) (λ m f. r ≡ maxBelow (λ j. when (opens m (the s) j) (f (at j 0))) (length (m .modes)))) ⌝ }
 {
     let n = shape.modes;
@@ -105,7 +106,7 @@ fn offers(work: &[u32], t: usize, s: State, shape: Shape) -> u32
 
 // Whether mode j can be begun one tick after s and its head is top.
 fn attains_at(work: &[u32], t: usize, s: State, top: u32, shape: Shape, j: usize) -> bool
-    requires { ⌜ ((numbers : List ℕ) × Tells shape numbers) × (Within shape s) × (j < shape .modes) × (t ≤ 2000) × (16384 ≤ length (now work)) ⌝ }
+    requires { ⌜ ((numbers : List ℕ) × Tells shape numbers) × (Within shape s) × (j < shape .modes) × (t ≤ 2000) × (workNumbers ≤ length (now work)) ⌝ }
     ensures { λ r. ⌜ EachAt shape t (now (work .entry)) (λ m f. r ≡ attains m f (the s) top j) ⌝ }
 {
     if begins(s, shape, j) {
@@ -116,7 +117,7 @@ fn attains_at(work: &[u32], t: usize, s: State, top: u32, shape: Shape, j: usize
 
 // The lowest such mode, or the number of modes.
 fn lowest_head(work: &[u32], t: usize, s: State, top: u32, shape: Shape) -> usize
-    requires { ⌜ ((numbers : List ℕ) × Tells shape numbers) × (Within shape s) × (t ≤ 2000) × (16384 ≤ length (now work)) ⌝ }
+    requires { ⌜ ((numbers : List ℕ) × Tells shape numbers) × (Within shape s) × (t ≤ 2000) × (workNumbers ≤ length (now work)) ⌝ }
     ensures { λ r. ⌜ (r ≤ shape .modes) × (EachAt shape t (now (work .entry)) (λ m f. r ≡ Follow.head m f (the s) top)) ⌝ }
 {
     let n = shape.modes;
@@ -132,7 +133,7 @@ fn lowest_head(work: &[u32], t: usize, s: State, top: u32, shape: Shape) -> usiz
 
 // One tick of a walk along a stay: s gains, and goes on for v or to the best head at tick t, the next.
 fn turn(work: &[u32], t: usize, s: State, v: u32, l: usize, shape: Shape, numbers: &[u16]) -> u32
-    requires { ⌜ (Tells shape (now numbers)) × (Within shape s) × (t ≤ 2000) × (16384 ≤ length (now work)) × (v < 65536) ⌝ }
+    requires { ⌜ (Tells shape (now numbers)) × (Within shape s) × (t ≤ 2000) × (workNumbers ≤ length (now work)) × (v < 65536) ⌝ }
     ensures { λ r. ⌜ ((m : Module) (f : Moment → ℕ) → ModuleRule m → Told m shape (now (numbers .entry)) → HeadsAt m f t (now (work .entry)) → r ≡ gain m (the s) 0 l + max v (maxBelow (λ j. when (opens m (the s) j) (f (at j 0))) (length (m .modes)))) ⌝ }
 {
     let best = layers::larger(v, offers(work, t, s, shape));
@@ -149,7 +150,7 @@ fn value_at(
     shape: Shape,
     numbers: &[u16],
 ) -> u32
-    requires { ⌜ (Tells shape (now numbers)) × (Within shape s) × (t ≤ b) × (b ≤ 2000) × (16384 ≤ length (now work)) × (Filled shape (now numbers) a b (now work)) ⌝ }
+    requires { ⌜ (Tells shape (now numbers)) × (Within shape s) × (t ≤ b) × (b ≤ 2000) × (workNumbers ≤ length (now work)) × (Filled shape (now numbers) a b (now work)) ⌝ }
     ensures { λ r. ⌜ Each shape (now (numbers .entry)) (λ m. r ≡ value m (a - t) (b - t) (the s)) ⌝ }
 {
     let k = s.mode;
@@ -188,7 +189,7 @@ fn next_mode(
     shape: Shape,
     numbers: &[u16],
 ) -> usize
-    requires { ⌜ (Tells shape (now numbers)) × (Within shape s) × (t ≤ b) × (b ≤ 2000) × (16384 ≤ length (now work)) × (Filled shape (now numbers) a b (now work)) ⌝ }
+    requires { ⌜ (Tells shape (now numbers)) × (Within shape s) × (t ≤ b) × (b ≤ 2000) × (workNumbers ≤ length (now work)) × (Filled shape (now numbers) a b (now work)) ⌝ }
     requires { ⌜ Each shape (now numbers) (λ m. top ≡ maxOf (value m (a - t) (b - t)) (nexts m (the s))) ⌝ }
     ensures { λ r. ⌜ Each shape (now (numbers .entry)) (λ m. r ≡ chosen (value m (a - t) (b - t)) (the s) (nexts m (the s)) .mode) ⌝ }
 {
@@ -224,7 +225,7 @@ fn go(s: State, shape: Shape, to: usize) -> State
 
 // The tape, tick by tick: the mode of the state, and on to the next state on the tape, which has what the gain leaves of the value.
 fn follow(tape: &mut [u8], a: usize, b: usize, work: &[u32], shape: Shape, numbers: &[u16])
-    requires { ⌜ (Tells shape (now numbers)) × (b ≤ 2000) × (b ≤ length (now tape)) × (16384 ≤ length (now work)) × (Filled shape (now numbers) a b (now work)) ⌝ }
+    requires { ⌜ (Tells shape (now numbers)) × (b ≤ 2000) × (b ≤ length (now tape)) × (workNumbers ≤ length (now work)) × (Filled shape (now numbers) a b (now work)) ⌝ }
     ensures { λ _. ⌜ Taped shape (now (numbers .entry)) a b (now (tape .entry)) (now (tape .exit)) ⌝ }
 {
     let mut s = State { mode: 0, time: 0 };
@@ -249,7 +250,7 @@ pub fn write_tape(
     shape: Shape,
     numbers: &[u16],
 )
-    requires { ⌜ (Tells shape (now numbers)) × (b ≤ 2000) × (b ≤ length (now tape)) × (16384 ≤ length (now work)) ⌝ }
+    requires { ⌜ (Tells shape (now numbers)) × (b ≤ 2000) × (b ≤ length (now tape)) × (workNumbers ≤ length (now work)) ⌝ }
     ensures { λ _. ⌜ (Taped shape (now (numbers .entry)) a b (now (tape .entry)) (now (tape .exit))) × (Kept (now (work .entry)) (now (work .exit))) ⌝ }
 {
     heads::fill_heads(work, a, b, shape, numbers);

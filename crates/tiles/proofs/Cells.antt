@@ -18,7 +18,8 @@ use Rattle.layers.proofs.Parts.{part-length, part-look, back-here}
 use Rattle.figures.specs.Figures.{Added}
 use Rattle.figures.proofs.Offered.{not-both}
 use Rattle.figures.proofs.Tiles.{figures-bound}
-use Rattle.cells.specs.Cells.{layerFrom, cellsFrom, inQuestion, Longest, rows, cellAt, Tile}
+use Rattle.memory.specs.Map.{layerFrom, cellsFrom}
+use Rattle.cells.specs.Cells.{inQuestion, Longest, rows, cellAt, Tile}
 use Rattle.tiles.specs.Tiles.{Within, Progressed, RowFits, RowAdded, CellsFit, ModuleAdded}
 use Rattle.cells.proofs.Rows.{rows-more, rows-grow}
 use Rattle.tiles.proofs.Rows.{question-same, rows-same, cell-same, cell-before}

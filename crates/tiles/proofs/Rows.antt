@@ -8,7 +8,8 @@ use native.Mathlib.Omega.{arith}
 use lib.Dec.{ltb}
 use lib.ListN.{length}
 use Rattle.layers.specs.Step.{look}
-use Rattle.cells.specs.Cells.{cellsFrom, inQuestion, Longest, rows, cellAt, Tile}
+use Rattle.memory.specs.Map.{cellsFrom}
+use Rattle.cells.specs.Cells.{inQuestion, Longest, rows, cellAt, Tile}
 use Rattle.cells.proofs.Rows.{rows-before}
 
 -- two memories with the same sums

@@ -10,13 +10,14 @@ use Rattle.layers.specs.declared.Shape.{Shape}
 use Rattle.layers.specs.Step.{look, total, Cleared}
 use Rattle.layers.specs.Layer.{Layer, Each, Advanced}
 use Rattle.layers.proofs.Parts.{part-length}
-use Rattle.sums.specs.Sums.{Layered, layerPart}
+use Rattle.memory.specs.Map.{layerPart, marksPart}
+use Rattle.sums.specs.Sums.{Layered}
 use Rattle.sums.proofs.Sums.{part-size, part-start, layered-more}
 use Rattle.marks.specs.Marks.{Marks}
 use Rattle.marks.specs.Marking.{Entered}
 use Rattle.figures.specs.Figures.{Grown}
 use Rattle.figures.proofs.Tiles.{figures-start}
-use Rattle.tiles.specs.Tiles.{marksPart, Within, Progress, Begun, Progressed}
+use Rattle.tiles.specs.Tiles.{Within, Progress, Begun, Progressed}
 use Rattle.tiles.proofs.Parts.{part-look, part-before, part-behind, within-wider, within-then, put-within, put-part}
 
 -- The marks are made, then the layer is cleared.

@@ -3,7 +3,7 @@ use mathlib.Core.Path.{_≡_}
 use mathlib.Core.Bool.{true}
 use mathlib.Core.List.{List}
 use Prim.Native.Nat.{ℕ, pred, _+_, _-_, _*_, _^_, _≤_, _<_}
-use lib.ListN.{length, take, drop}
+use lib.ListN.{length}
 use Rattle.model.specs.Lists.{when}
 use Rattle.model.specs.Sheet.{Module}
 use Rattle.model.specs.Run.{first}
@@ -11,10 +11,10 @@ use Rattle.model.specs.Demand.{value}
 use Rattle.layers.specs.declared.Shape.{Shape}
 use Rattle.layers.specs.Step.{look}
 use Rattle.layers.specs.Layer.{Layer, Each}
-use Rattle.sums.specs.Sums.{layerPart}
-use Rattle.marks.specs.Marks.{markNumbers, Marks}
+use Rattle.memory.specs.Map.{layerFrom, marksFrom, cellsFrom, layerPart, marksPart}
+use Rattle.marks.specs.Marks.{Marks}
 use Rattle.figures.specs.Figures.{Figures}
-use Rattle.cells.specs.Cells.{layerFrom, marksFrom, cellsFrom, inQuestion, rows, cellAt}
+use Rattle.cells.specs.Cells.{inQuestion, rows, cellAt}
 
 -- nothing but the numbers from a on and before e has changed
 pub record Within (a e : ℕ) (w w′ : List ℕ) : Type 0 where
@@ -23,10 +23,6 @@ pub record Within (a e : ℕ) (w w′ : List ℕ) : Type 0 where
   pub above : (x : ℕ) → e ≤ x → look w′ x ≡ look w x
 
 -- What the module has come to.
-
--- where in the working memory its marks stand
-abbrev pub marksPart : List ℕ → List ℕ
-marksPart w = take markNumbers (drop marksFrom w)
 
 -- with n ticks: its layer, its marks up to the last end of the tile, and its figures
 pub record Progress (m : Module) (lo n : ℕ) (w fig : List ℕ) : Type 0 where

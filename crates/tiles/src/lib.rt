@@ -3,22 +3,27 @@ ghost use mathlib.Core.Path.{_≡_};
 ghost use mathlib.Core.Bool.{true};
 ghost use Prim.Native.Nat.{pred, _+_, _≤_, _<_};
 ghost use lib.ListN.{length};
+ghost use Rattle.model.specs.Limits.{workNumbers};
+ghost use Rattle.memory.specs.Map.{layerNumbers};
 ghost use Rattle.layers.specs.Step.{total};
 ghost use Rattle.layers.specs.Layer.{Tells, Each};
 ghost use Rattle.marks.specs.Marking.{Walkable};
 ghost use Rattle.cells.specs.Cells.{inQuestion, Longest, Tile};
 ghost use Rattle.tiles.specs.Tiles.{Progress, Begun, Progressed, RowFits, RowAdded, CellsFit, ModuleAdded};
 use layers::Shape;
+use memory::CELLS_FROM;
+use memory::LAYER_FROM;
+use memory::MARKS_FROM;
 
 // The module's marks up to the last end, and its layer for no tick.
 pub fn begin(work: &mut [u32], last: usize, shape: Shape)
-    requires { ⌜ (last ≤ 2000) × (16384 ≤ length (now work)) × (Walkable shape) × (total (shape .periods) (shape .modes) ≤ 8192) ⌝ }
+    requires { ⌜ (last ≤ 2000) × (workNumbers ≤ length (now work)) × (Walkable shape) × (total (shape .periods) (shape .modes) ≤ layerNumbers) ⌝ }
     ensures { λ _. ⌜ Begun shape last (now (work .entry)) (now (work .exit)) ⌝ }
 {
-    marks::mark_entries(&mut work[10193..10697], last, shape);
+    marks::mark_entries(&mut work[MARKS_FROM..CELLS_FROM], last, shape);
     let n = shape.modes;
     let periods = shape.periods;
-    layers::clear(&mut work[2001..10193], layers::states(periods, n));
+    layers::clear(&mut work[LAYER_FROM..MARKS_FROM], layers::states(periods, n));
 }
 
 // The layer and the figures for l ticks become those for l + 1.
@@ -30,16 +35,16 @@ fn next_figures(
     shape: Shape,
     numbers: &[u16],
 )
-    requires { ⌜ (l < 2000) × (16384 ≤ length (now work)) × (lo + length (now fig) ≤ 2001) × (Tells shape (now numbers)) × (Each shape (now numbers) (λ m. Progress m lo l (now work) (now fig))) ⌝ }
+    requires { ⌜ (l < 2000) × (workNumbers ≤ length (now work)) × (lo + length (now fig) ≤ 2001) × (Tells shape (now numbers)) × (Each shape (now numbers) (λ m. Progress m lo l (now work) (now fig))) ⌝ }
     ensures { λ _. ⌜ Progressed shape (now (numbers .entry)) lo (l + 1) (now (work .entry)) (now (work .exit)) (now (fig .entry)) (now (fig .exit)) ⌝ }
 {
-    layers::advance(&mut work[2001..10193], l, shape, numbers);
+    layers::advance(&mut work[LAYER_FROM..MARKS_FROM], l, shape, numbers);
     figures::raise_figures(
         fig,
         lo,
         l + 1,
-        &work[2001..10193],
-        &work[10193..10697],
+        &work[LAYER_FROM..MARKS_FROM],
+        &work[MARKS_FROM..CELLS_FROM],
         shape,
         numbers,
     );
@@ -47,13 +52,13 @@ fn next_figures(
 
 // The figures are added to the row of this number, if the length l is in question; the number of the next row is handed back.
 fn add_row(work: &mut [u32], fig: &[u32], l: usize, row: usize) -> usize
-    requires { ⌜ (l ≤ 2000) × (row ≤ l) × (16384 ≤ length (now work)) × (inQuestion (now work) l ≡ true → RowFits (now fig) row (now work)) ⌝ }
+    requires { ⌜ (l ≤ 2000) × (row ≤ l) × (workNumbers ≤ length (now work)) × (inQuestion (now work) l ≡ true → RowFits (now fig) row (now work)) ⌝ }
     ensures { λ r. ⌜ RowAdded (now (fig .entry)) l row r (now (work .entry)) (now (work .exit)) ⌝ }
 {
     if work[l] <= l as u32 {
         return row;
     }
-    let from = 10697 + row * fig.len();
+    let from = CELLS_FROM + row * fig.len();
     let to = from + fig.len();
     figures::add_figures(&mut work[from..to], fig);
     row + 1

@@ -7,7 +7,7 @@ use Rattle.model.specs.Limits.{workNumbers}
 use Rattle.model.specs.Verdict.{exactSum}
 use Rattle.format.specs.Judgement.{sheetIn}
 use Rattle.tiles.proofs.Parts.{within-none}
-use Rattle.cells.specs.Cells.{layerFrom}
+use Rattle.memory.specs.Map.{layerFrom}
 use Rattle.search.proofs.Searching.{Behind, range-clear, passed-part, behind-none, behind-all, behind-over, behind-clear}
 use Rattle.search.proofs.Keeping.{passed-kept}
 use Rattle.search.proofs.search_range.Statement.{statement}

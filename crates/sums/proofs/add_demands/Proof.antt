@@ -3,7 +3,8 @@ use mathlib.Core.Path.{refl}
 use Prim.Native.Nat.{_+_, _-_, _≤_}
 use native.Mathlib.Omega.{arith}
 use borrow.Author.Needs.{needs}
-use Rattle.sums.specs.Sums.{Layered, layerPart, Summed}
+use Rattle.memory.specs.Map.{layerPart}
+use Rattle.sums.specs.Sums.{Layered, Summed}
 use Rattle.sums.proofs.Sums.{told-modes, told-states, part-size, part-start, summed-start, summed-more, summed-end}
 use Rattle.sums.proofs.add_demands.Statement.{statement}
 use Rattle.sums.proofs.add_demands.Tie as tie
