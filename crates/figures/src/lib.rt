@@ -5,14 +5,14 @@ ghost use Prim.Native.Nat.{ℕ, _+_, _-_, _*_, _/_, _^_, _<_, _≤_};
 ghost use lib.ListN.{length};
 ghost use Rattle.layers.specs.Step.{look, total, period, TasksReady, ModeReady};
 ghost use Rattle.layers.specs.Layer.{IsLayer};
-ghost use Rattle.memory.specs.Map.{markNumbers};
-ghost use Rattle.marks.specs.Marking.{rowTicks};
+ghost use Rattle.memory.specs.Map.{rowTicks, markNumbers};
 ghost use Rattle.figures.specs.Figures.{Grown, Added};
 ghost use Rattle.figures.specs.Offers.{Raised, TickOffer, TimeOffer, TaskOffer, ModeOffer, ShapeOffer, Quiet, AnyMark, Room};
 use layers::Shape;
 use layers::larger;
 use layers::smaller;
 use memory::ROW_NUMBERS;
+use memory::ROW_TICKS;
 
 // a less b, and 0 where b is more.
 pub fn less(a: usize, b: usize) -> usize
@@ -158,7 +158,7 @@ fn offer_mode(
     let to = from + shape.periods[k] as usize;
     let a = shape.starts[k] as usize;
     let e = shape.starts[k + 1] as usize;
-    if any_mark(bits, k, 0, 32 * ROW_NUMBERS) {
+    if any_mark(bits, k, 0, ROW_TICKS) {
         offer_tasks(fig, &layer[from..to], &numbers[a..e], bits, k, lo, l);
     }
     to

@@ -11,12 +11,8 @@ use Rattle.entries.specs.Entry.{Entry}
 use Rattle.layers.specs.declared.Shape.{Shape}
 use Rattle.layers.specs.Step.{period, lists, every}
 use Rattle.layers.specs.Layer.{Told}
-use Rattle.memory.specs.Map.{rowNumbers, markNumbers}
+use Rattle.memory.specs.Map.{rowTicks, markNumbers}
 use Rattle.marks.specs.Marks.{marked, Marks}
-
--- the ticks of a row
-abbrev pub rowTicks : ℕ
-rowTicks = 32 * rowNumbers
 
 -- the marks of w′ are those of w and those of P, a relation of modes and ticks; the numbers behind the rows are as they were
 pub record Marking (P : ℕ → ℕ → Type 0) (w w′ : List ℕ) : Type 0 where

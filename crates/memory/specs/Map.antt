@@ -11,6 +11,9 @@ layerNumbers = 8192
 abbrev pub rowNumbers : ℕ
 rowNumbers = 63
 
+abbrev pub rowTicks : ℕ
+rowTicks = 32 * rowNumbers
+
 abbrev pub markNumbers : ℕ
 markNumbers = 8 * rowNumbers
 

@@ -8,6 +8,8 @@ pub const LAYER_NUMBERS: usize = 8192;
 // A module's marks: a row for each of 8 modes, with 32 ticks in a number.
 pub const ROW_NUMBERS: usize = 63;
 
+pub const ROW_TICKS: usize = 32 * ROW_NUMBERS;
+
 pub const MARK_NUMBERS: usize = 8 * ROW_NUMBERS;
 
 // The tests: at L the sum, or the bound, of the length L, up to 2,000; behind these the layer of one module, its marks, and the cells.

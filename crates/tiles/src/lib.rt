@@ -23,7 +23,10 @@ pub fn begin(work: &mut [u32], last: usize, shape: Shape)
     marks::mark_entries(&mut work[MARKS_FROM..CELLS_FROM], last, shape);
     let n = shape.modes;
     let periods = shape.periods;
-    layers::clear(&mut work[LAYER_FROM..MARKS_FROM], layers::states(periods, n));
+    layers::clear(
+        &mut work[LAYER_FROM..MARKS_FROM],
+        layers::states(periods, n),
+    );
 }
 
 // The layer and the figures for l ticks become those for l + 1.
