@@ -19,6 +19,7 @@ use layers::Shape;
 use memory::CELLS_FROM;
 use memory::LAYER_FROM;
 use memory::MARKS_FROM;
+use table::ModuleRow;
 
 // The best number, or v if it is larger and an end of the range is so many ticks after a mark of mode k.
 fn top_time(best: u32, v: u32, bits: &[u32], k: usize, lo: usize, width: usize, far: usize) -> u32
@@ -239,17 +240,16 @@ fn add_module(
     lo: usize,
     width: usize,
     stop: usize,
-    periods: [[u16; 8]; 8],
-    every: [[u16; 64]; 8],
-    listed: [[bool; 64]; 8],
+    rows: [ModuleRow; 8],
 )
     requires { ⌜ Accepted (now sheet) ⌝ }
     requires { ⌜ k < length (sheetIn (now sheet) .modules) ⌝ }
-    requires { ⌜ RowsOf (sheetIn (now sheet)) periods every listed ⌝ }
+    requires { ⌜ RowsOf (sheetIn (now sheet)) rows ⌝ }
     requires { ⌜ (workNumbers ≤ length (now work)) × (1 ≤ lo) × (lo + width ≤ 2001) × (stop ≤ 2000) × (Fits stop (now work)) ⌝ }
     ensures { λ _. ⌜ ModuleAdded (sheetIn (now (sheet .entry))) k lo width stop (now (work .entry)) (now (work .exit)) ⌝ }
 {
-    let engine = modules::engine_of(sheet, k, periods, every, listed);
+    let row = rows[k];
+    let engine = modules::engine_of(sheet, k, row);
     let shape = engine.shape;
     let numbers = engine.numbers;
     add_bounds(work, lo, width, stop, shape, &numbers);
@@ -263,20 +263,18 @@ pub fn bound_sums(
     lo: usize,
     width: usize,
     stop: usize,
-    periods: [[u16; 8]; 8],
-    every: [[u16; 64]; 8],
-    listed: [[bool; 64]; 8],
+    rows: [ModuleRow; 8],
 )
     requires { ⌜ Accepted (now sheet) ⌝ }
     requires { ⌜ modules ≡ length (sheetIn (now sheet) .modules) ⌝ }
-    requires { ⌜ RowsOf (sheetIn (now sheet)) periods every listed ⌝ }
+    requires { ⌜ RowsOf (sheetIn (now sheet)) rows ⌝ }
     requires { ⌜ (workNumbers ≤ length (now work)) × (1 ≤ lo) × (1 ≤ width) × (lo + width ≤ 2001) × (stop ≤ 2000) ⌝ }
     ensures { λ _. ⌜ SumsBounded (sheetIn (now (sheet .entry))) lo width stop (now (work .entry)) (now (work .exit)) ⌝ }
 {
     sums::clear_sums(work, stop);
     let mut k = 0;
     while k < modules {
-        add_module(sheet, work, k, lo, width, stop, periods, every, listed);
+        add_module(sheet, work, k, lo, width, stop, rows);
         k += 1;
     }
 }

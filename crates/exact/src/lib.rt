@@ -11,6 +11,7 @@ ghost use Rattle.exact.specs.Exact.{ExactTested};
 ghost use Rattle.exact.specs.Asking.{Asks, sound};
 use cells::Found;
 use judge::Judged;
+use judge::Sheet;
 
 /// What the exact test says: the refusal's number and place, clear, or over.
 pub enum Exact {
@@ -32,17 +33,15 @@ enum Asked {
     Sound { modules: usize, horizon: usize },
 }
 
-// The refusal number of too little memory, and the memory in which a call works.
+// The refusal number of too little memory.
 const MEMORY_TOO_SMALL: u8 = 10;
-
-const WORK: usize = 16384;
 
 /// Whether the memory of each kind is enough.
 pub fn is_enough(modules: usize, horizon: usize, work: usize, tape: usize) -> bool
     requires { ⌜ (modules ≤ 8) × (horizon ≤ 2000) ⌝ }
     ensures { λ r. ⌜ r ≡ leb workNumbers work && leb (modules * horizon) tape ⌝ }
 {
-    if work < WORK {
+    if work < Sheet::WORK_NUMBERS {
         return false;
     }
     if tape < modules * horizon {
@@ -93,16 +92,14 @@ fn exact_given(
     requires { ⌜ Sound (exactTerms (count (now work)) (count (now tape))) (now sheet) modules horizon ⌝ }
     ensures { λ r. ⌜ ExactTested (now (sheet .entry)) (now (work .entry)) (now (work .exit)) (now (tape .entry)) (now (tape .exit)) r ⌝ }
 {
-    let periods = table::mode_periods(sheet);
-    let every = table::switch_periods(sheet);
-    let listed = table::switch_listed(sheet);
-    let found = search::search(sheet, work, modules, horizon, periods, every, listed);
+    let rows = table::module_rows(sheet);
+    let found = search::search(sheet, work, modules, horizon, rows);
     match found {
         Found::Clear => Exact::Clear,
         Found::At { start, end, sum } => {
             let a = start as usize;
             let b = end as usize;
-            witness::write_tapes(sheet, a, b, work, tape, modules, periods, every, listed);
+            witness::write_tapes(sheet, a, b, work, tape, modules, rows);
             Exact::Over(Interval {
                 start,
                 end,

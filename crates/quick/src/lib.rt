@@ -12,7 +12,9 @@ ghost use Rattle.quick.specs.Quick.{answerOf, QuickTested};
 ghost use Rattle.quick.specs.Sums.{ModuleAdded, SumsOf, Found};
 ghost use Rattle.quick.specs.Asking.{Asks, Sound};
 use judge::Judged;
+use judge::Sheet;
 use sums::Over;
+use table::ModuleRow;
 
 /// What the quick test says: the refusal's number and place, clear, or over.
 pub enum Quick {
@@ -33,58 +35,41 @@ enum Asked {
     Sound { modules: usize, horizon: usize },
 }
 
-// The refusal number of too little memory, and the memory in which a call works.
+// The refusal number of too little memory.
 const MEMORY_TOO_SMALL: u8 = 10;
-
-const WORK: usize = 16384;
 
 // How many lengths are looked at first.
 const FEW: usize = 32;
 
 // The demands of the module k are added to the sums of the lengths from 1 to n.
-fn add_module(
-    sheet: &[u8],
-    work: &mut [u32],
-    k: usize,
-    n: usize,
-    periods: [[u16; 8]; 8],
-    every: [[u16; 64]; 8],
-    listed: [[bool; 64]; 8],
-)
+fn add_module(sheet: &[u8], work: &mut [u32], k: usize, n: usize, rows: [ModuleRow; 8])
     requires { ⌜ Accepted (now sheet) ⌝ }
     requires { ⌜ k < count (sheetIn (now sheet) .modules) ⌝ }
     requires { ⌜ n ≤ sheetIn (now sheet) .horizon ⌝ }
-    requires { ⌜ RowsOf (sheetIn (now sheet)) periods every listed ⌝ }
+    requires { ⌜ RowsOf (sheetIn (now sheet)) rows ⌝ }
     requires { ⌜ (workNumbers ≤ count (now work)) × (Fits n (now work)) ⌝ }
     ensures { λ _. ⌜ ModuleAdded (sheetIn (now (sheet .entry))) n k (now (work .entry)) (now (work .exit)) ⌝ }
 {
-    let engine = modules::engine_of(sheet, k, periods, every, listed);
+    let row = rows[k];
+    let engine = modules::engine_of(sheet, k, row);
     let shape = engine.shape;
     let numbers = engine.numbers;
     sums::add_demands(work, n, shape, &numbers);
 }
 
 // At each length from 1 to n the sum of the modules' demands.
-fn quick_sums(
-    sheet: &[u8],
-    work: &mut [u32],
-    modules: usize,
-    n: usize,
-    periods: [[u16; 8]; 8],
-    every: [[u16; 64]; 8],
-    listed: [[bool; 64]; 8],
-)
+fn quick_sums(sheet: &[u8], work: &mut [u32], modules: usize, n: usize, rows: [ModuleRow; 8])
     requires { ⌜ Accepted (now sheet) ⌝ }
     requires { ⌜ modules ≡ count (sheetIn (now sheet) .modules) ⌝ }
     requires { ⌜ n ≤ sheetIn (now sheet) .horizon ⌝ }
-    requires { ⌜ RowsOf (sheetIn (now sheet)) periods every listed ⌝ }
+    requires { ⌜ RowsOf (sheetIn (now sheet)) rows ⌝ }
     requires { ⌜ workNumbers ≤ count (now work) ⌝ }
     ensures { λ _. ⌜ SumsOf (sheetIn (now (sheet .entry))) n (now (work .entry)) (now (work .exit)) ⌝ }
 {
     sums::clear_sums(work, n);
     let mut k = 0;
     while k < modules {
-        add_module(sheet, work, k, n, periods, every, listed);
+        add_module(sheet, work, k, n, rows);
         k += 1;
     }
 }
@@ -95,18 +80,16 @@ fn first_over(
     work: &mut [u32],
     modules: usize,
     n: usize,
-    periods: [[u16; 8]; 8],
-    every: [[u16; 64]; 8],
-    listed: [[bool; 64]; 8],
+    rows: [ModuleRow; 8],
 ) -> Over
     requires { ⌜ Accepted (now sheet) ⌝ }
     requires { ⌜ modules ≡ count (sheetIn (now sheet) .modules) ⌝ }
     requires { ⌜ n ≤ sheetIn (now sheet) .horizon ⌝ }
-    requires { ⌜ RowsOf (sheetIn (now sheet)) periods every listed ⌝ }
+    requires { ⌜ RowsOf (sheetIn (now sheet)) rows ⌝ }
     requires { ⌜ workNumbers ≤ count (now work) ⌝ }
     ensures { λ r. ⌜ Found (sheetIn (now (sheet .entry))) n r (now (work .entry)) (now (work .exit)) ⌝ }
 {
-    quick_sums(sheet, work, modules, n, periods, every, listed);
+    quick_sums(sheet, work, modules, n, rows);
     sums::first_over(work, n)
 }
 
@@ -116,26 +99,24 @@ fn first_of_all(
     work: &mut [u32],
     modules: usize,
     horizon: usize,
-    periods: [[u16; 8]; 8],
-    every: [[u16; 64]; 8],
-    listed: [[bool; 64]; 8],
+    rows: [ModuleRow; 8],
 ) -> Over
     requires { ⌜ Accepted (now sheet) ⌝ }
     requires { ⌜ modules ≡ count (sheetIn (now sheet) .modules) ⌝ }
     requires { ⌜ (horizon ≡ sheetIn (now sheet) .horizon) × (horizon ≤ 2000) ⌝ }
-    requires { ⌜ RowsOf (sheetIn (now sheet)) periods every listed ⌝ }
+    requires { ⌜ RowsOf (sheetIn (now sheet)) rows ⌝ }
     requires { ⌜ workNumbers ≤ count (now work) ⌝ }
     ensures { λ r. ⌜ Found (sheetIn (now (sheet .entry))) horizon r (now (work .entry)) (now (work .exit)) ⌝ }
 {
     let mut n = FEW;
     while n < horizon {
-        let found = first_over(sheet, work, modules, n, periods, every, listed);
+        let found = first_over(sheet, work, modules, n, rows);
         if let Over::At { length, sum } = found {
             return Over::At { length, sum };
         }
         n *= 8;
     }
-    first_over(sheet, work, modules, horizon, periods, every, listed)
+    first_over(sheet, work, modules, horizon, rows)
 }
 
 // Whether the quick test is refused, where so many numbers are lent.
@@ -152,7 +133,7 @@ fn quick_asked(sheet: &[u8], work: usize) -> Asked
             switches: _,
             horizon,
         } => {
-            if work < WORK {
+            if work < Sheet::WORK_NUMBERS {
                 return Asked::Refused {
                     number: MEMORY_TOO_SMALL,
                     place: 0,
@@ -184,10 +165,8 @@ fn quick_given(sheet: &[u8], work: &mut [u32], modules: usize, horizon: usize) -
     requires { ⌜ Sound (quickTerms (count (now work))) (now sheet) modules horizon ⌝ }
     ensures { λ r. ⌜ QuickTested (now (sheet .entry)) (now (work .entry)) (now (work .exit)) r ⌝ }
 {
-    let periods = table::mode_periods(sheet);
-    let every = table::switch_periods(sheet);
-    let listed = table::switch_listed(sheet);
-    verdict(first_of_all(sheet, work, modules, horizon, periods, every, listed))
+    let rows = table::module_rows(sheet);
+    verdict(first_of_all(sheet, work, modules, horizon, rows))
 }
 
 /// The quick test: the smallest length whose sum of the modules' demands exceeds it, or clear.

@@ -11,6 +11,7 @@ ghost use Rattle.cells.specs.Cells.{Longest, Tile};
 ghost use Rattle.search.specs.Search.{Passed, Beyond, Bounded, Narrowed, CellsOf, Filled, Searched};
 use cells::Found;
 use layers::smaller;
+use table::ModuleRow;
 
 // How many tiles are enough for a range.
 const TILES: usize = 8;
@@ -23,17 +24,16 @@ fn add_module(
     width: usize,
     stop: usize,
     k: usize,
-    periods: [[u16; 8]; 8],
-    every: [[u16; 64]; 8],
-    listed: [[bool; 64]; 8],
+    rows: [ModuleRow; 8],
 )
     requires { ⌜ Accepted (now sheet) ⌝ }
     requires { ⌜ k < length (sheetIn (now sheet) .modules) ⌝ }
-    requires { ⌜ RowsOf (sheetIn (now sheet)) periods every listed ⌝ }
+    requires { ⌜ RowsOf (sheetIn (now sheet)) rows ⌝ }
     requires { ⌜ (CellsOf (sheetIn (now sheet)) k lo width (now work)) × (Tile (now work) lo width) × (Longest (now work) (pred (lo + width)) stop) ⌝ }
     ensures { λ _. ⌜ Filled (sheetIn (now (sheet .entry))) (k + 1) lo width (now (work .entry)) (now (work .exit)) ⌝ }
 {
-    let engine = modules::engine_of(sheet, k, periods, every, listed);
+    let row = rows[k];
+    let engine = modules::engine_of(sheet, k, row);
     let shape = engine.shape;
     let numbers = engine.numbers;
     tiles::add_module(work, lo, width, stop, shape, &numbers);
@@ -46,13 +46,11 @@ fn fill_tile(
     lo: usize,
     width: usize,
     modules: usize,
-    periods: [[u16; 8]; 8],
-    every: [[u16; 64]; 8],
-    listed: [[bool; 64]; 8],
+    rows: [ModuleRow; 8],
 )
     requires { ⌜ Accepted (now sheet) ⌝ }
     requires { ⌜ modules ≡ length (sheetIn (now sheet) .modules) ⌝ }
-    requires { ⌜ RowsOf (sheetIn (now sheet)) periods every listed ⌝ }
+    requires { ⌜ RowsOf (sheetIn (now sheet)) rows ⌝ }
     requires { ⌜ Tile (now work) lo width ⌝ }
     ensures { λ _. ⌜ Filled (sheetIn (now (sheet .entry))) modules lo width (now (work .entry)) (now (work .exit)) ⌝ }
 {
@@ -60,7 +58,7 @@ fn fill_tile(
     cells::clear_cells(work);
     let mut k = 0;
     while k < modules {
-        add_module(sheet, work, lo, width, stop, k, periods, every, listed);
+        add_module(sheet, work, lo, width, stop, k, rows);
         k += 1;
     }
 }
@@ -72,17 +70,15 @@ fn search_tile(
     lo: usize,
     width: usize,
     modules: usize,
-    periods: [[u16; 8]; 8],
-    every: [[u16; 64]; 8],
-    listed: [[bool; 64]; 8],
+    rows: [ModuleRow; 8],
 ) -> Found
     requires { ⌜ Accepted (now sheet) ⌝ }
     requires { ⌜ modules ≡ length (sheetIn (now sheet) .modules) ⌝ }
-    requires { ⌜ RowsOf (sheetIn (now sheet)) periods every listed ⌝ }
+    requires { ⌜ RowsOf (sheetIn (now sheet)) rows ⌝ }
     requires { ⌜ (Tile (now work) lo width) × (Passed (sheetIn (now sheet)) lo width (now work)) ⌝ }
     ensures { λ r. ⌜ Searched layerFrom (exactFrom (exactSum (sheetIn (now (sheet .entry)))) width lo) r (now (work .entry)) (now (work .exit)) ⌝ }
 {
-    fill_tile(sheet, work, lo, width, modules, periods, every, listed);
+    fill_tile(sheet, work, lo, width, modules, rows);
     cells::first_in_tile(work, lo, width)
 }
 
@@ -93,13 +89,11 @@ fn search_range(
     lo: usize,
     range: usize,
     modules: usize,
-    periods: [[u16; 8]; 8],
-    every: [[u16; 64]; 8],
-    listed: [[bool; 64]; 8],
+    rows: [ModuleRow; 8],
 ) -> Found
     requires { ⌜ Accepted (now sheet) ⌝ }
     requires { ⌜ modules ≡ length (sheetIn (now sheet) .modules) ⌝ }
-    requires { ⌜ RowsOf (sheetIn (now sheet)) periods every listed ⌝ }
+    requires { ⌜ RowsOf (sheetIn (now sheet)) rows ⌝ }
     requires { ⌜ (workNumbers ≤ length (now work)) × (1 ≤ lo) × (lo + range ≤ 2001) × (Passed (sheetIn (now sheet)) lo range (now work)) ⌝ }
     ensures { λ r. ⌜ Searched layerFrom (exactFrom (exactSum (sheetIn (now (sheet .entry)))) range lo) r (now (work .entry)) (now (work .exit)) ⌝ }
 {
@@ -110,7 +104,7 @@ fn search_range(
     let mut from = lo;
     while from <= last {
         let width = cells::width_at(work, from, last);
-        let found = search_tile(sheet, work, from, width, modules, periods, every, listed);
+        let found = search_tile(sheet, work, from, width, modules, rows);
         if let Found::At { start, end, sum } = found {
             return Found::At { start, end, sum };
         }
@@ -127,28 +121,16 @@ fn bound_range(
     range: usize,
     stop: usize,
     modules: usize,
-    periods: [[u16; 8]; 8],
-    every: [[u16; 64]; 8],
-    listed: [[bool; 64]; 8],
+    rows: [ModuleRow; 8],
 )
     requires { ⌜ Accepted (now sheet) ⌝ }
     requires { ⌜ modules ≡ length (sheetIn (now sheet) .modules) ⌝ }
-    requires { ⌜ RowsOf (sheetIn (now sheet)) periods every listed ⌝ }
+    requires { ⌜ RowsOf (sheetIn (now sheet)) rows ⌝ }
     requires { ⌜ (workNumbers ≤ length (now work)) × (1 ≤ lo) × (1 ≤ range) × (lo + range ≤ sheetIn (now sheet) .horizon + 1) × (Beyond (sheetIn (now sheet)) stop) ⌝ }
     ensures { λ _. ⌜ Bounded (sheetIn (now (sheet .entry))) lo range (now (work .entry)) (now (work .exit)) ⌝ }
 {
     let longest = smaller(stop, lo + range - 1);
-    bounds::bound_sums(
-        sheet,
-        work,
-        modules,
-        lo,
-        range,
-        longest,
-        periods,
-        every,
-        listed,
-    );
+    bounds::bound_sums(sheet, work, modules, lo, range, longest, rows);
 }
 
 // The bounds of a range, halved until eight tiles are enough for it; how many ends it then has is handed back.
@@ -159,19 +141,17 @@ fn narrow(
     range: usize,
     stop: usize,
     modules: usize,
-    periods: [[u16; 8]; 8],
-    every: [[u16; 64]; 8],
-    listed: [[bool; 64]; 8],
+    rows: [ModuleRow; 8],
 ) -> usize
     requires { ⌜ Accepted (now sheet) ⌝ }
     requires { ⌜ modules ≡ length (sheetIn (now sheet) .modules) ⌝ }
-    requires { ⌜ RowsOf (sheetIn (now sheet)) periods every listed ⌝ }
+    requires { ⌜ RowsOf (sheetIn (now sheet)) rows ⌝ }
     requires { ⌜ (workNumbers ≤ length (now work)) × (1 ≤ lo) × (1 ≤ range) × (lo + range ≤ sheetIn (now sheet) .horizon + 1) × (Beyond (sheetIn (now sheet)) stop) ⌝ }
     ensures { λ r. ⌜ Narrowed (sheetIn (now (sheet .entry))) lo range r (now (work .entry)) (now (work .exit)) ⌝ }
 {
     let mut n = range;
     loop {
-        bound_range(sheet, work, lo, n, stop, modules, periods, every, listed);
+        bound_range(sheet, work, lo, n, stop, modules, rows);
         if n <= TILES * cells::width_at(work, lo, lo + n - 1) {
             return n;
         }
@@ -186,13 +166,11 @@ fn search_ranges(
     horizon: usize,
     stop: usize,
     modules: usize,
-    periods: [[u16; 8]; 8],
-    every: [[u16; 64]; 8],
-    listed: [[bool; 64]; 8],
+    rows: [ModuleRow; 8],
 ) -> Found
     requires { ⌜ Accepted (now sheet) ⌝ }
     requires { ⌜ modules ≡ length (sheetIn (now sheet) .modules) ⌝ }
-    requires { ⌜ RowsOf (sheetIn (now sheet)) periods every listed ⌝ }
+    requires { ⌜ RowsOf (sheetIn (now sheet)) rows ⌝ }
     requires { ⌜ (workNumbers ≤ length (now work)) × (2 ≤ horizon) × (horizon ≡ sheetIn (now sheet) .horizon) × (Beyond (sheetIn (now sheet)) stop) ⌝ }
     ensures { λ r. ⌜ Searched 0 (exact (sheetIn (now (sheet .entry)))) r (now (work .entry)) (now (work .exit)) ⌝ }
 {
@@ -200,8 +178,8 @@ fn search_ranges(
     let mut range = horizon / 2;
     while lo <= horizon {
         let most = smaller(range, horizon + 1 - lo);
-        let n = narrow(sheet, work, lo, most, stop, modules, periods, every, listed);
-        let found = search_range(sheet, work, lo, n, modules, periods, every, listed);
+        let n = narrow(sheet, work, lo, most, stop, modules, rows);
+        let found = search_range(sheet, work, lo, n, modules, rows);
         if let Found::At { start, end, sum } = found {
             return Found::At { start, end, sum };
         }
@@ -217,31 +195,19 @@ pub fn search(
     work: &mut [u32],
     modules: usize,
     horizon: usize,
-    periods: [[u16; 8]; 8],
-    every: [[u16; 64]; 8],
-    listed: [[bool; 64]; 8],
+    rows: [ModuleRow; 8],
 ) -> Found
     requires { ⌜ Accepted (now sheet) ⌝ }
     requires { ⌜ modules ≡ length (sheetIn (now sheet) .modules) ⌝ }
     requires { ⌜ horizon ≡ sheetIn (now sheet) .horizon ⌝ }
-    requires { ⌜ RowsOf (sheetIn (now sheet)) periods every listed ⌝ }
+    requires { ⌜ RowsOf (sheetIn (now sheet)) rows ⌝ }
     requires { ⌜ workNumbers ≤ length (now work) ⌝ }
     ensures { λ r. ⌜ Searched 0 (exact (sheetIn (now (sheet .entry)))) r (now (work .entry)) (now (work .exit)) ⌝ }
 {
-    bound_range(
-        sheet,
-        work,
-        1,
-        horizon,
-        horizon,
-        modules,
-        periods,
-        every,
-        listed,
-    );
+    bound_range(sheet, work, 1, horizon, horizon, modules, rows);
     if horizon <= TILES * cells::width_at(work, 1, horizon) {
-        return search_range(sheet, work, 1, horizon, modules, periods, every, listed);
+        return search_range(sheet, work, 1, horizon, modules, rows);
     }
     let stop = cells::longest(work, horizon);
-    search_ranges(sheet, work, horizon, stop, modules, periods, every, listed)
+    search_ranges(sheet, work, horizon, stop, modules, rows)
 }

@@ -14,6 +14,8 @@ ghost use Rattle.states.specs.Asking.{Asks, asked, isState, StateMet, Mo
 use demand::Amount;
 use demand::Demand;
 use judge::Judged;
+use judge::Sheet;
+use memory::LAYER_NUMBERS;
 use modules::Engine;
 
 // Whether a call is refused before it is answered.
@@ -27,11 +29,6 @@ const OUT_OF_RANGE: u8 = 9;
 
 const MEMORY_TOO_SMALL: u8 = 10;
 
-// The lent memory in which a call works, and the part of it that one module's layer takes.
-const WORK: usize = 16384;
-
-const LAYER: usize = 8192;
-
 // The arguments of a call go before its memory.
 fn tested(in_range: bool, work: usize) -> Asked
     ensures { λ r. ⌜ r ≡ asked in_range (leb workNumbers work) ⌝ }
@@ -42,7 +39,7 @@ fn tested(in_range: bool, work: usize) -> Asked
             place: 0,
         };
     }
-    if work < WORK {
+    if work < Sheet::WORK_NUMBERS {
         return Asked::Refused {
             number: MEMORY_TOO_SMALL,
             place: 0,
@@ -113,10 +110,8 @@ fn engine_at(sheet: &[u8], k: usize) -> Engine
     requires { ⌜ k < count (sheetIn (now sheet) .modules) ⌝ }
     ensures { λ r. ⌜ Told (moduleAt (sheetIn (now (sheet .entry))) k) (r .shape) (r .numbers) ⌝ }
 {
-    let periods = table::mode_periods(sheet);
-    let every = table::switch_periods(sheet);
-    let listed = table::switch_listed(sheet);
-    modules::engine_of(sheet, k, periods, every, listed)
+    let row = table::module_row(sheet, k);
+    modules::engine_of(sheet, k, row)
 }
 
 // The state demand, where nothing refuses it.
@@ -134,7 +129,14 @@ fn state_given(
     let engine = engine_at(sheet, module);
     let shape = engine.shape;
     let numbers = engine.numbers;
-    let demand = sums::demand_at(&mut work[0..LAYER], length, shape, &numbers, mode, time);
+    let demand = sums::demand_at(
+        &mut work[0..LAYER_NUMBERS],
+        length,
+        shape,
+        &numbers,
+        mode,
+        time,
+    );
     Demand::Given(Amount { demand })
 }
 
@@ -187,7 +189,7 @@ fn module_given(sheet: &[u8], module: usize, length: usize, work: &mut [u32]) ->
     let engine = engine_at(sheet, module);
     let shape = engine.shape;
     let numbers = engine.numbers;
-    let demand = sums::largest_demand(&mut work[0..LAYER], length, shape, &numbers);
+    let demand = sums::largest_demand(&mut work[0..LAYER_NUMBERS], length, shape, &numbers);
     Demand::Given(Amount { demand })
 }
 

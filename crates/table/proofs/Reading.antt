@@ -15,9 +15,11 @@ use Rattle.model.specs.Run.{modeAt, idle}
 use Rattle.format.specs.Rules.{named}
 use Rattle.format.specs.Judgement.{sheetIn, Accepted}
 use Rattle.format.proofs.Bytes.{joined-append}
-use Rattle.table.specs.Rows.{periodTo, switchPeriodAt, switchListedAt}
+use Rattle.format.proofs.RoundTrip.{accepted-wellFormed}
+use Rattle.table.specs.Rows.{periodTo, switchPeriodAt, switchListedAt, RowOf, noRow, RowsOf}
 use Rattle.model.specs.Flat.{taskNumbers}
 use Rattle.table.specs.Numbers.{modeNumbers, startOf, TasksOf}
+use Rattle.table.specs.declared.ModuleRow.{ModuleRow}
 use Rattle.table.specs.declared.Tasks.{Tasks}
 use Rattle.table.proofs.Numbering.{length-taskNumbers, start-step, start-most, modes-few}
 
@@ -105,3 +107,10 @@ switch-listed w (v ∷ ws) d (List·Memᴰ·head e) = let same : eqb (w .target)
 switch-listed w (v ∷ ws) d (List·Memᴰ·tail h) =
     let other : eqb (w .target) (v .target) ≡ false = ne-eqb _ _ (λ e. apart (v .target) w ws (d .0) h (sym e)) in
     rw (other) (switch-listed w ws (d .1) h)
+
+-- Rows.
+
+-- of all rows those of the number k are the module's
+pub row-of-module : (bs : List ℕ) → Accepted bs → (k : ℕ) → k < length (sheetIn bs .modules) → {rows : List ModuleRow} → RowsOf (sheetIn bs) rows
+    → RowOf (moduleAt (sheetIn bs) k) (getD rows k noRow)
+row-of-module bs accepted k number rows = rows .each k (omega (arith, accepted-wellFormed bs (sheetIn bs) accepted .modules-most))

@@ -9,16 +9,12 @@ use Rattle.model.specs.Sheet.{Switch, Mode, Module, Sheet, moduleAt}
 use Rattle.model.specs.Limits.{maxModules}
 use Rattle.model.specs.Run.{modeAt}
 use Rattle.format.specs.Rules.{named}
+use Rattle.table.specs.declared.ModuleRow.{ModuleRow}
 
 -- a row of n figures: at each number below n what f says
 pub record Row {A : Type 0} (d : A) (n : ℕ) (f : ℕ → A) (row : List A) : Type 0 where
   pub size : length row ≡ n
   pub each : (i : ℕ) → i < n → getD row i d ≡ f i
-
--- a row of n figures for each number that a module can have; past the modules f is asked of a module without modes
-pub record Rows {A : Type 0} (d : A) (n : ℕ) (f : Module → ℕ → A) (s : Sheet) (rows : List (List A)) : Type 0 where
-  pub size : length rows ≡ maxModules
-  pub each : (k : ℕ) → k < maxModules → Row d n (f (moduleAt s k)) (getD rows k [])
 
 -- the period of the mode j, 0 past the modes
 abbrev pub periodAt : Module → ℕ → ℕ
@@ -42,6 +38,17 @@ switchPeriodAt m i = periodTo (i % 8) (modeAt m (i / 8) .switches)
 abbrev pub switchListedAt : Module → ℕ → Bool
 switchListedAt m i = named (i % 8) (modeAt m (i / 8) .switches)
 
--- the rows of the sheet's periods, of its switch periods, and of what its modes list
-abbrev pub RowsOf : Sheet → List (List ℕ) → List (List ℕ) → List (List Bool) → Type 0
-RowsOf s periods every listed = (Rows 0 8 periodAt s periods) × (Rows 0 64 switchPeriodAt s every) × (Rows false 64 switchListedAt s listed)
+-- the rows of the module m
+pub record RowOf (m : Module) (r : ModuleRow) : Type 0 where
+  pub periods : Row 0 8 (periodAt m) (r .periods)
+  pub every : Row 0 64 (switchPeriodAt m) (r .every)
+  pub listed : Row false 64 (switchListedAt m) (r .listed)
+
+-- what is read past an array of rows, which nobody does
+abbrev pub noRow : ModuleRow
+noRow = record { periods = []; every = []; listed = [] }
+
+-- the rows of each number that a module can have; past the modules those of a module without modes
+pub record RowsOf (s : Sheet) (rows : List ModuleRow) : Type 0 where
+  pub size : length rows ≡ maxModules
+  pub each : (k : ℕ) → k < maxModules → RowOf (moduleAt s k) (getD rows k noRow)

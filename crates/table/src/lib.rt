@@ -8,7 +8,7 @@ ghost use Rattle.model.specs.Run.{modeAt};
 ghost use Rattle.format.specs.Rules.{named};
 ghost use Rattle.format.specs.Judgement.{sheetIn, Accepted};
 ghost use Rattle.place.specs.There.{ModuleThere, ModesThere, ModeThere, SomeModule, SomeModes, SomeMode};
-ghost use Rattle.table.specs.Rows.{Row, Rows, periodAt, periodTo, indexTo, switchPeriodAt, switchListedAt};
+ghost use Rattle.table.specs.Rows.{Row, RowOf, RowsOf, periodAt, periodTo, indexTo, switchPeriodAt, switchListedAt};
 ghost use Rattle.model.specs.Flat.{taskNumbers};
 ghost use Rattle.table.specs.Numbers.{startOf, numberAt, TasksOf, Written};
 
@@ -17,6 +17,14 @@ ghost use Rattle.table.specs.Numbers.{startOf, numberAt, TasksOf, Writte
 pub struct Tasks {
     pub starts: [u16; 9],
     pub numbers: [u16; 512],
+}
+
+/// The rows of a module: the periods of its modes, 0 past them; and at 8 * j + t of the switch of the mode j to the mode t its period and whether there is one,
+/// 0 and false where there is none.
+pub struct ModuleRow {
+    pub periods: [u16; 8],
+    pub every: [u16; 64],
+    pub listed: [bool; 64],
 }
 
 // How many numbers the tasks of the first j modes of the module at p make.
@@ -206,24 +214,6 @@ fn period_row(sheet: &[u8], p: usize) -> [u16; 8]
     row
 }
 
-/// The periods of the modes, a row for each module; 0 past the modes and past the modules.
-pub fn mode_periods(sheet: &[u8]) -> [[u16; 8]; 8]
-    requires { ⌜ Accepted (now sheet) ⌝ }
-    ensures { λ r. ⌜ Rows 0 8 periodAt (sheetIn (now (sheet .entry))) r ⌝ }
-{
-    let blank = [0u16; 8];
-    let mut rows = [blank; 8];
-    let mut p = 4;
-    let mut k = 0;
-    while place::byte(sheet, p) == b'M' {
-        let row = period_row(sheet, p);
-        rows[k] = row;
-        p = place::after_module(sheet, p);
-        k += 1;
-    }
-    rows
-}
-
 // The row of the module at p.
 fn switch_period_row(sheet: &[u8], p: usize) -> [u16; 64]
     requires { ⌜ Accepted (now sheet) ⌝ }
@@ -237,24 +227,6 @@ fn switch_period_row(sheet: &[u8], p: usize) -> [u16; 64]
         i += 1;
     }
     row
-}
-
-/// The periods of the switches, a row for each module: at 8 * j + t that of the switch of the mode j to the mode t, 0 where j does not list t.
-pub fn switch_periods(sheet: &[u8]) -> [[u16; 64]; 8]
-    requires { ⌜ Accepted (now sheet) ⌝ }
-    ensures { λ r. ⌜ Rows 0 64 switchPeriodAt (sheetIn (now (sheet .entry))) r ⌝ }
-{
-    let blank = [0u16; 64];
-    let mut rows = [blank; 8];
-    let mut p = 4;
-    let mut k = 0;
-    while place::byte(sheet, p) == b'M' {
-        let row = switch_period_row(sheet, p);
-        rows[k] = row;
-        p = place::after_module(sheet, p);
-        k += 1;
-    }
-    rows
 }
 
 // The row of the module at p.
@@ -272,17 +244,49 @@ fn switch_listed_row(sheet: &[u8], p: usize) -> [bool; 64]
     row
 }
 
-/// Which switches there are, a row for each module: at 8 * j + t whether the mode j lists the mode t.
-pub fn switch_listed(sheet: &[u8]) -> [[bool; 64]; 8]
+// All rows of the module at p.
+fn row_at(sheet: &[u8], p: usize) -> ModuleRow
     requires { ⌜ Accepted (now sheet) ⌝ }
-    ensures { λ r. ⌜ Rows false 64 switchListedAt (sheetIn (now (sheet .entry))) r ⌝ }
+    requires { ⌜ SomeModule (sheetIn (now sheet)) p ⌝ }
+    ensures { λ r. ⌜ ((k : ℕ) → ModuleThere (sheetIn (now (sheet .entry))) k p → RowOf (moduleAt (sheetIn (now (sheet .entry))) k) r) ⌝ }
 {
-    let blank = [false; 64];
+    let periods = period_row(sheet, p);
+    let every = switch_period_row(sheet, p);
+    let listed = switch_listed_row(sheet, p);
+    ModuleRow {
+        periods,
+        every,
+        listed,
+    }
+}
+
+/// The rows of the module k.
+pub fn module_row(sheet: &[u8], k: usize) -> ModuleRow
+    requires { ⌜ Accepted (now sheet) ⌝ }
+    requires { ⌜ k < length (sheetIn (now sheet) .modules) ⌝ }
+    ensures { λ r. ⌜ RowOf (moduleAt (sheetIn (now (sheet .entry))) k) r ⌝ }
+{
+    row_at(sheet, place::module_place(sheet, k))
+}
+
+/// The rows of each module; past the modules they are blank.
+pub fn module_rows(sheet: &[u8]) -> [ModuleRow; 8]
+    requires { ⌜ Accepted (now sheet) ⌝ }
+    ensures { λ r. ⌜ RowsOf (sheetIn (now (sheet .entry))) r ⌝ }
+{
+    let periods = [0u16; 8];
+    let every = [0u16; 64];
+    let listed = [false; 64];
+    let blank = ModuleRow {
+        periods,
+        every,
+        listed,
+    };
     let mut rows = [blank; 8];
     let mut p = 4;
     let mut k = 0;
     while place::byte(sheet, p) == b'M' {
-        let row = switch_listed_row(sheet, p);
+        let row = row_at(sheet, p);
         rows[k] = row;
         p = place::after_module(sheet, p);
         k += 1;

@@ -8,6 +8,7 @@ ghost use Rattle.format.specs.Judgement.{sheetIn, Accepted};
 ghost use Rattle.query.specs.Memory.{Stays};
 ghost use Rattle.table.specs.Rows.{RowsOf};
 ghost use Rattle.witness.specs.Witness.{WitnessWritten, WrittenAt};
+use table::ModuleRow;
 
 // The tape of the module k: the tape memory from byte k × b onward is lent to its writer.
 fn write_module_tape(
@@ -17,17 +18,16 @@ fn write_module_tape(
     b: usize,
     work: &mut [u32],
     tape: &mut [u8],
-    periods: [[u16; 8]; 8],
-    every: [[u16; 64]; 8],
-    listed: [[bool; 64]; 8],
+    rows: [ModuleRow; 8],
 )
     requires { ⌜ Accepted (now sheet) ⌝ }
     requires { ⌜ k < length (sheetIn (now sheet) .modules) ⌝ }
-    requires { ⌜ RowsOf (sheetIn (now sheet)) periods every listed ⌝ }
+    requires { ⌜ RowsOf (sheetIn (now sheet)) rows ⌝ }
     requires { ⌜ (workNumbers ≤ length (now work)) × (b ≤ maxHorizon) × (k * b + b ≤ length (now tape)) ⌝ }
     ensures { λ _. ⌜ (WrittenAt (k * b) (moduleAt (sheetIn (now (sheet .entry))) k) a b (now (tape .entry)) (now (tape .exit))) × (Stays workNumbers (now (work .entry)) (now (work .exit))) ⌝ }
 {
-    let engine = modules::engine_of(sheet, k, periods, every, listed);
+    let row = rows[k];
+    let engine = modules::engine_of(sheet, k, row);
     let shape = engine.shape;
     let numbers = engine.numbers;
     let from = k * b;
@@ -43,19 +43,17 @@ pub fn write_tapes(
     work: &mut [u32],
     tape: &mut [u8],
     modules: usize,
-    periods: [[u16; 8]; 8],
-    every: [[u16; 64]; 8],
-    listed: [[bool; 64]; 8],
+    rows: [ModuleRow; 8],
 )
     requires { ⌜ Accepted (now sheet) ⌝ }
     requires { ⌜ modules ≡ length (sheetIn (now sheet) .modules) ⌝ }
-    requires { ⌜ RowsOf (sheetIn (now sheet)) periods every listed ⌝ }
+    requires { ⌜ RowsOf (sheetIn (now sheet)) rows ⌝ }
     requires { ⌜ (workNumbers ≤ length (now work)) × (b ≤ maxHorizon) × (modules * b ≤ length (now tape)) ⌝ }
     ensures { λ _. ⌜ (WitnessWritten (sheetIn (now (sheet .entry))) a b (now (tape .entry)) (now (tape .exit))) × (Stays workNumbers (now (work .entry)) (now (work .exit))) ⌝ }
 {
     let mut k = 0;
     while k < modules {
-        write_module_tape(sheet, k, a, b, work, tape, periods, every, listed);
+        write_module_tape(sheet, k, a, b, work, tape, rows);
         k += 1;
     }
 }

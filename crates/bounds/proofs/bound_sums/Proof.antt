@@ -11,10 +11,10 @@ use Rattle.bounds.proofs.bound_sums.Statement.{statement}
 use Rattle.bounds.proofs.bound_sums.Tie as tie
 
 abbrev Inv-loop : tie.InvT-loop
-Inv-loop sheet work₀ modules lo width stop periods every listed k₀ work k = (BoundedTo (sheetIn sheet) k lo width stop work₀ work) × (k ≤ modules)
+Inv-loop sheet work₀ modules lo width stop rows k₀ work k = (BoundedTo (sheetIn sheet) k lo width stop work₀ work) × (k ≤ modules)
 
 abbrev μ-loop : tie.MeasureT-loop
-μ-loop sheet work₀ modules lo width stop periods every listed k₀ work k = modules - k
+μ-loop sheet work₀ modules lo width stop rows k₀ work k = modules - k
 
 clear-sums-requires : tie.Need-clear-sums-requires Inv-loop μ-loop
 clear-sums-requires c κs = let p = c .before .before .before .pre .1 .1 .1 in omega (arith, p .0, p .4)

@@ -5,6 +5,7 @@ use borrow.Author.Needs.{needs}
 use Rattle.model.specs.WellFormed.{WellFormed}
 use Rattle.format.specs.Judgement.{sheetIn}
 use Rattle.format.proofs.RoundTrip.{accepted-wellFormed}
+use Rattle.table.proofs.Reading.{row-of-module}
 use Rattle.modules.proofs.Telling.{rule, tells}
 use Rattle.quick.proofs.Sums.{module-added}
 use Rattle.quick.proofs.add_module.Statement.{statement}
@@ -13,17 +14,23 @@ use Rattle.quick.proofs.add_module.Tie as tie
 sound : (a : tie.Start) → WellFormed (sheetIn (now (a .args .sheet)))
 sound a = accepted-wellFormed _ _ (a .pre .0)
 
+mul-row : tie.Need-mul-row
+mul-row c = omega (arith, sound (c .before .before) .modules-most)
+
+array-copy-out-row : tie.Need-array-copy-out-row
+array-copy-out-row c = omega (arith, sound (c .before .before) .modules-most)
+
 engine-of-requires : tie.Need-engine-of-requires
 engine-of-requires c κs =
-    let a = c .before .before in
-    (a .pre .0, ((omega (arith, sound a .modules-most), a .pre .1 .0), a .pre .1 .1 .1 .0))
+    let p = c .before .before .before .pre in
+    (p .0, (p .1 .0, row-of-module _ (p .0) _ (p .1 .0) (p .1 .1 .1 .0)))
 
 slice-aggregate-add-demands : tie.Need-slice-aggregate-add-demands
 slice-aggregate-add-demands c = search needs
 
 add-demands-requires : tie.Need-add-demands-requires
 add-demands-requires c κs =
-    let a = c .before .before .before .before .before .before .before in
+    let a = c .before .before .before .before .before .before .before .before in
     let p = a .pre .1 .1 .1 .1 in
     (omega (arith, sound a .horizon-most, a .pre .1 .1 .0), p .0, p .1, tells (now (a .args .sheet)) (a .pre .0) (a .args .k) (a .pre .1 .0) (c .before .before .before .before .engine-of .ensures))
 
@@ -32,14 +39,17 @@ same-length c = search needs
 
 returns : tie.Need-returns
 returns c =
-    let a = c .before .before .before .before .before .before .before .before .before .before in
+    let engine = c .before .before .before .before .before .before .before in
+    let a = engine .before .before .before .before in
     let bs = now (a .args .sheet) in
-    module-added (sheetIn bs) _ (a .args .k) _ _ _ _ (rule bs (a .pre .0) (a .args .k) (a .pre .1 .0)) (c .before .before .before .before .before .before .before .engine-of .ensures) (c .before .before .add-demands .ensures)
+    module-added (sheetIn bs) _ (a .args .k) _ _ _ _ (rule bs (a .pre .0) (a .args .k) (a .pre .1 .0)) (engine .engine-of .ensures) (c .before .before .add-demands .ensures)
 
 pub add-module-spec : {M : Type 1} → statement M
 add-module-spec =
     tie.close
     (tie.spec
+    mul-row
+    array-copy-out-row
     engine-of-requires
     slice-aggregate-add-demands
     add-demands-requires

@@ -10,10 +10,10 @@ use Rattle.quick.proofs.first_of_all.Statement.{statement}
 use Rattle.quick.proofs.first_of_all.Tie as tie
 
 abbrev Inv-loop : tie.InvT-loop
-Inv-loop sheet work₀ modules horizon periods every listed n₀ work n = (1 ≤ n) × Stays workNumbers work₀ work
+Inv-loop sheet work₀ modules horizon rows n₀ work n = (1 ≤ n) × Stays workNumbers work₀ work
 
 abbrev μ-loop : tie.MeasureT-loop
-μ-loop sheet work₀ modules horizon periods every listed n₀ work n = horizon - n
+μ-loop sheet work₀ modules horizon rows n₀ work n = horizon - n
 
 loop-holds : tie.Need-loop-holds Inv-loop μ-loop
 loop-holds c = (omega arith, stays-untouched _ _)

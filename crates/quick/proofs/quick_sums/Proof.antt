@@ -12,10 +12,10 @@ use Rattle.quick.proofs.quick_sums.Statement.{statement}
 use Rattle.quick.proofs.quick_sums.Tie as tie
 
 abbrev Inv-loop : tie.InvT-loop
-Inv-loop sheet work₀ modules n periods every listed k₀ work k = (SumsTo (sheetIn sheet) n k work₀ work) × (k ≤ modules)
+Inv-loop sheet work₀ modules n rows k₀ work k = (SumsTo (sheetIn sheet) n k work₀ work) × (k ≤ modules)
 
 abbrev μ-loop : tie.MeasureT-loop
-μ-loop sheet work₀ modules n periods every listed k₀ work k = modules - k
+μ-loop sheet work₀ modules n rows k₀ work k = modules - k
 
 sound : (a : tie.Start Inv-loop μ-loop) → WellFormed (sheetIn (now (a .args .sheet)))
 sound a = accepted-wellFormed _ _ (a .pre .0)

@@ -14,10 +14,10 @@ use Rattle.search.proofs.fill_tile.Statement.{statement}
 use Rattle.search.proofs.fill_tile.Tie as tie
 
 abbrev Inv-loop : tie.InvT-loop
-Inv-loop sheet work₀ lo width modules periods every listed stop k₀ work k = (Filled (sheetIn sheet) k lo width work₀ work) × (k ≤ modules)
+Inv-loop sheet work₀ lo width modules rows stop k₀ work k = (Filled (sheetIn sheet) k lo width work₀ work) × (k ≤ modules)
 
 abbrev μ-loop : tie.MeasureT-loop
-μ-loop sheet work₀ lo width modules periods every listed stop k₀ work k = modules - k
+μ-loop sheet work₀ lo width modules rows stop k₀ work k = modules - k
 
 add-longest : tie.Need-add-longest Inv-loop μ-loop
 add-longest c = search needs

@@ -10,10 +10,10 @@ use Rattle.search.proofs.narrow.Statement.{statement}
 use Rattle.search.proofs.narrow.Tie as tie
 
 abbrev Inv-loop : tie.InvT-loop
-Inv-loop sheet work₀ lo range stop modules periods every listed n₀ work n = (1 ≤ n) × (n ≤ range) × (Within 0 workNumbers work₀ work)
+Inv-loop sheet work₀ lo range stop modules rows n₀ work n = (1 ≤ n) × (n ≤ range) × (Within 0 workNumbers work₀ work)
 
 abbrev μ-loop : tie.MeasureT-loop
-μ-loop sheet work₀ lo range stop modules periods every listed n₀ work n = n
+μ-loop sheet work₀ lo range stop modules rows n₀ work n = n
 
 loop-holds : tie.Need-loop-holds Inv-loop μ-loop
 loop-holds c = (c .before .before .pre .1 .1 .1 .2, omega arith, within-none _ _ _)

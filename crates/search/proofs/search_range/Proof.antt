@@ -14,10 +14,10 @@ use Rattle.search.proofs.search_range.Statement.{statement}
 use Rattle.search.proofs.search_range.Tie as tie
 
 abbrev Inv-loop : tie.InvT-loop
-Inv-loop sheet work₀ lo range modules periods every listed last from₀ work from = Behind (exactSum (sheetIn sheet)) layerFrom lo range from work₀ work
+Inv-loop sheet work₀ lo range modules rows last from₀ work from = Behind (exactSum (sheetIn sheet)) layerFrom lo range from work₀ work
 
 abbrev μ-loop : tie.MeasureT-loop
-μ-loop sheet work₀ lo range modules periods every listed last from₀ work from = lo + range - from
+μ-loop sheet work₀ lo range modules rows last from₀ work from = lo + range - from
 
 add-last : tie.Need-add-last Inv-loop μ-loop
 add-last c = search needs

@@ -11,10 +11,10 @@ use Rattle.search.proofs.search_ranges.Statement.{statement}
 use Rattle.search.proofs.search_ranges.Tie as tie
 
 abbrev Inv-loop : tie.InvT-loop
-Inv-loop sheet work₀ horizon stop modules periods every listed lo₀ range₀ work lo range = (Behind (exactSum (sheetIn sheet)) 0 1 horizon lo work₀ work) × (1 ≤ range)
+Inv-loop sheet work₀ horizon stop modules rows lo₀ range₀ work lo range = (Behind (exactSum (sheetIn sheet)) 0 1 horizon lo work₀ work) × (1 ≤ range)
 
 abbrev μ-loop : tie.MeasureT-loop
-μ-loop sheet work₀ horizon stop modules periods every listed lo₀ range₀ work lo range = horizon + 1 - lo
+μ-loop sheet work₀ horizon stop modules rows lo₀ range₀ work lo range = horizon + 1 - lo
 
 most : (a : tie.Start Inv-loop μ-loop) → a .args .horizon ≤ 2000
 most a = omega (arith, a .pre .1 .1 .1 .2, accepted-wellFormed _ _ (a .pre .0) .horizon-most)

@@ -6,16 +6,23 @@ use denote.Ref.{now}
 use borrow.Author.Needs.{needs}
 use Rattle.model.specs.Limits.{workNumbers}
 use Rattle.format.proofs.RoundTrip.{accepted-wellFormed}
+use Rattle.table.proofs.Reading.{row-of-module}
 use Rattle.modules.proofs.Telling.{rule, tells}
 use Rattle.query.proofs.Meeting.{stays-by}
 use Rattle.witness.proofs.Tapes.{written-at}
 use Rattle.witness.proofs.write_module_tape.Statement.{statement}
 use Rattle.witness.proofs.write_module_tape.Tie as tie
 
+mul-row : tie.Need-mul-row
+mul-row c = omega (arith, accepted-wellFormed _ _ (c .before .before .before .pre .0) .modules-most)
+
+array-copy-out-row : tie.Need-array-copy-out-row
+array-copy-out-row c = omega (arith, accepted-wellFormed _ _ (c .before .before .before .pre .0) .modules-most)
+
 engine-of-requires : tie.Need-engine-of-requires
 engine-of-requires c κs =
-    let p = c .before .before .before .pre in
-    (p .0, ((omega (arith, accepted-wellFormed _ _ (p .0) .modules-most), omega arith), p .1 .1 .0))
+    let p = c .before .before .before .before .pre in
+    (p .0, (p .1 .0, row-of-module _ (p .0) _ (p .1 .0) (p .1 .1 .0)))
 
 mul-from : tie.Need-mul-from
 mul-from c = search needs
@@ -34,7 +41,7 @@ slice-aggregate-write-tape c = search needs
 
 write-tape-requires : tie.Need-write-tape-requires
 write-tape-requires c κs =
-    let a = c .before .before .before .before .before .before .before .before .before in
+    let a = c .before .before .before .before .before .before .before .before .before .before in
     let p = a .pre in
     (tells (now (a .args .sheet)) (p .0) (a .args .k) (p .1 .0) (c .before .before .before .before .before .engine-of .ensures), p .1 .1 .1 .1, simp (length-take, length-drop) (omega arith), p .1 .1 .1 .0)
 
@@ -46,7 +53,7 @@ same-length-2 c = search needs
 
 returns : tie.Need-returns
 returns c =
-    let a = c .before .before .before .before .before .before .before .before .before .before .before .before .before .before in
+    let a = c .before .before .before .before .before .before .before .before .before .before .before .before .before .before .before in
     let p = a .pre in
     let told = c .before .before .before .before .before .before .before .before .before .before .engine-of .ensures in
     let new = c .before .before .before .before .write-tape .ensures in
@@ -56,6 +63,8 @@ pub write-module-tape-spec : {M : Type 1} → statement M
 write-module-tape-spec =
     tie.close
     (tie.spec
+    mul-row
+    array-copy-out-row
     engine-of-requires
     mul-from
     sub-write-tape

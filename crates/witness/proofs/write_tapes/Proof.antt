@@ -12,10 +12,10 @@ use Rattle.witness.proofs.write_tapes.Statement.{statement}
 use Rattle.witness.proofs.write_tapes.Tie as tie
 
 abbrev Inv-loop : tie.InvT-loop
-Inv-loop sheet a b work₀ tape₀ modules periods every listed k₀ work tape k = (k ≤ modules) × WrittenTo (sheetIn sheet) a b k tape₀ tape × Stays workNumbers work₀ work
+Inv-loop sheet a b work₀ tape₀ modules rows k₀ work tape k = (k ≤ modules) × WrittenTo (sheetIn sheet) a b k tape₀ tape × Stays workNumbers work₀ work
 
 abbrev μ-loop : tie.MeasureT-loop
-μ-loop sheet a b work₀ tape₀ modules periods every listed k₀ work tape k = modules - k
+μ-loop sheet a b work₀ tape₀ modules rows k₀ work tape k = modules - k
 
 loop-holds : tie.Need-loop-holds Inv-loop μ-loop
 loop-holds c = (omega arith, written-none _ _ _ _, stays-untouched _ _)

@@ -1,18 +1,17 @@
 -- The rows of the modules that are passed stand in the table, until EN. Assumes nothing.
 use mathlib.Core.List.{List}
-use mathlib.Core.Path.{refl, sym, _∙_}
+use mathlib.Core.Path.{sym, _∙_}
 use Prim.Native.Nat.{ℕ, _-_}
 use native.Mathlib.Omega.{arith}
 use lib.ListN.{length}
 use Rattle.format.specs.Judgement.{sheetIn}
 use Rattle.place.proofs.Counting.{are-bytes}
 use Rattle.table.proofs.Tabling.{Tabled, tabled-none, tabled-there, tabled-some, tabled-more, tabled-all}
-use Rattle.table.specs.Rows.{periodAt}
-use Rattle.table.proofs.mode_periods.Statement.{statement}
-use Rattle.table.proofs.mode_periods.Tie as tie
+use Rattle.table.proofs.module_rows.Statement.{statement}
+use Rattle.table.proofs.module_rows.Tie as tie
 
 abbrev Inv-loop : tie.InvT-loop
-Inv-loop sheet rows₀ p₀ k₀ rows p k = Tabled 0 8 periodAt sheet rows p k
+Inv-loop sheet rows₀ p₀ k₀ rows p k = Tabled sheet rows p k
 
 abbrev μ-loop : tie.MeasureT-loop
 μ-loop sheet rows₀ p₀ k₀ rows p k = length (sheetIn sheet .modules) - k
@@ -20,13 +19,13 @@ abbrev μ-loop : tie.MeasureT-loop
 loop-holds : tie.Need-loop-holds Inv-loop μ-loop
 loop-holds c =
     let bs : List ℕ = c .before .args .sheet .now in
-    tabled-none bs (c .before .pre) (are-bytes bs (c .shared-slice-known .given)) (λ i. refl)
+    tabled-none bs (c .before .pre) (are-bytes bs (c .shared-slice-known .given))
 
 byte-requires : tie.Need-byte-requires Inv-loop μ-loop
 byte-requires c κs = c .loop .inv .within
 
-period-row-requires : tie.Need-period-row-requires Inv-loop μ-loop
-period-row-requires c κs = (c .before .before .before .before .pre, tabled-some (c .before .before .loop .inv) (sym (c .before .byte .ensures) ∙ c .if1 .taken))
+row-at-requires : tie.Need-row-at-requires Inv-loop μ-loop
+row-at-requires c κs = (c .before .before .before .before .pre, tabled-some (c .before .before .loop .inv) (sym (c .before .byte .ensures) ∙ c .if1 .taken))
 
 mul-rows : tie.Need-mul-rows Inv-loop μ-loop
 mul-rows c = omega (arith, c .before .before .before .loop .inv .eight, tabled-there (c .before .before .before .loop .inv) (sym (c .before .before .byte .ensures) ∙ c .before .if1 .taken) .number)
@@ -44,20 +43,20 @@ loop-less : tie.Need-loop-less Inv-loop μ-loop
 loop-less c = omega (arith, tabled-there (c .before .before .before .before .loop .inv) (sym (c .before .before .before .byte .ensures) ∙ c .before .before .if1 .taken) .number)
 
 loop-again : tie.Need-loop-again Inv-loop μ-loop
-loop-again c = tabled-more (c .before .before .before .before .loop .inv) (sym (c .before .before .before .byte .ensures) ∙ c .before .before .if1 .taken) _ (c .before .period-row .ensures) _ (c .after-module .ensures)
+loop-again c = tabled-more (c .before .before .before .before .loop .inv) (sym (c .before .before .before .byte .ensures) ∙ c .before .before .if1 .taken) _ (c .before .row-at .ensures) _ (c .after-module .ensures)
 
 returns : tie.Need-returns Inv-loop μ-loop
 returns c = tabled-all (c .before .before .loop .inv) (λ e. c .if1 .left (c .before .byte .ensures ∙ e))
 
-pub mode-periods-spec : {M : Type 1} → statement M
-mode-periods-spec =
+pub module-rows-spec : {M : Type 1} → statement M
+module-rows-spec =
     tie.close
     (tie.spec
     Inv-loop
     μ-loop
     loop-holds
     byte-requires
-    period-row-requires
+    row-at-requires
     mul-rows
     array-set-from-rows
     after-module-requires
