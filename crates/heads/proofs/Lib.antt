@@ -1,3 +1,4 @@
 pub mod Gains
 pub mod Pairs
 pub mod Backward
+pub mod Unique

@@ -5,3 +5,4 @@ pub mod Turns
 pub mod Bounds
 pub mod Nexts
 pub mod Layers
+pub mod Unique

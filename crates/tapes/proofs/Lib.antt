@@ -3,3 +3,4 @@ pub mod Search
 pub mod Values
 pub mod Onward
 pub mod Following
+pub mod Unique
