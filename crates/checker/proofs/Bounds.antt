@@ -19,11 +19,8 @@ use Rattle.model.proofs.Lists.{all-at}
 use Rattle.model.proofs.Runs.{period-positive}
 use Rattle.model.proofs.Bounds.{value-bound}
 use Rattle.model.proofs.Verdicts.{quick-sum-only, exact-sum-only}
-use Rattle.format.specs.Record.{Mark, HZ, ML, MD, TK, SW, EN}
-use Rattle.format.specs.Rules.{fieldNumber}
 use Rattle.format.specs.Judgement.{Judgement, judgement}
-use Rattle.format.specs.Refusal.{Refusal, no-mark, unknown-mark, cut-short, out-of-order, past-count, bad-field, bytes-after}
-use Rattle.format.proofs.Judging.{judgement-refusal}
+use Rattle.format.proofs.Judging.{refused-number}
 use Rattle.format.proofs.RoundTrip.{accepted-wellFormed, refused-place}
 use Rattle.query.specs.Answer.{Answer, refused, given, Terms, GivenBy, AnsweredBy, Answered}
 use Rattle.query.specs.Query.{WitnessedIs, exactTerms, ExactAnswer}
@@ -42,25 +39,8 @@ pub record CanRefuse (number place : ℕ) : Type 0 where
   pub most : number ≤ 10
   pub placed : place ≤ maxBytes
 
-field-number : (m : Mark) → (5 ≤ fieldNumber m) × (fieldNumber m ≤ 7)
-field-number HZ = omega arith
-field-number ML = omega arith
-field-number MD = omega arith
-field-number TK = omega arith
-field-number SW = omega arith
-field-number EN = omega arith
-
-refusal-number : (bs : List ℕ) (n p : ℕ) → Refusal bs n p → (1 ≤ n) × (n ≤ 8)
-refusal-number bs n p (no-mark rs f e g l k) = omega arith
-refusal-number bs n p (unknown-mark rs f e g l u k) = omega arith
-refusal-number bs n p (cut-short rs f e g l m u c k) = omega arith
-refusal-number bs n p (out-of-order rs f e g m w o k) = omega arith
-refusal-number bs n p (past-count rs f e g m w o c k) = omega arith
-refusal-number bs n p (bad-field rs f e g m w o c v k) = omega (arith, field-number m)
-refusal-number bs n p (bytes-after rs f e g l k) = omega arith
-
 pub judged-refused : (bs : List ℕ) (n p : ℕ) → judgement bs ≡ Judgement.refused n p → CanRefuse n p
-judged-refused bs n p e = omega (arith, refusal-number bs n p (judgement-refusal bs n p e), refused-place bs n p e)
+judged-refused bs n p e = omega (arith, refused-number bs n p e, refused-place bs n p e)
 
 -- Any call.
 

@@ -39,7 +39,7 @@ fn modes() {
 fn states() {
     let a =
         b"HZ\x08\x00ML\x01\x00MD\x04\x00TK\x00\x00\x02\x00\x03\x00\x04\x00ML\x02\x00MD\x04\x00TK\x00\x00\x01\x00\x04\x00\x04\x00SW\x01\x00\x04\x00MD\x04\x00TK\x01\x00\x02\x00\x02\x00\x04\x00EN\x0a\x00";
-    let mut work = [0u32; 16384];
+    let mut work = [0u32; judge::Sheet::WORK_NUMBERS];
     say(states::state_demand(a, 1, 0, 1, 5, &mut work));
     say(states::state_demand(a, 1, 0, 1, 6, &mut work));
     say(states::state_demand(a, 1, 0, 4, 6, &mut work));

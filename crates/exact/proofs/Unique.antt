@@ -2,31 +2,19 @@
 -- working memory that the answer does not use. Assumes nothing.
 use mathlib.Core.Path.{_≡_, refl, sym, _∙_, ap, subst}
 use mathlib.Core.List.{List, []}
-use Prim.Native.Nat.{ℕ, zero, suc, _+_, _*_}
-use native.Mathlib.Nat.{add-zero, zero-add, zero-mul}
+use Prim.Native.Nat.{ℕ}
 use native.Mathlib.Omega.{arith}
-use lib.ListN.{length, take, drop, take-append-drop}
-use lib.Seq.{drop-drop}
+use lib.ListN.{length, drop}
 use Rattle.model.specs.Verdict as Verdict
 use Rattle.query.specs.Answer.{Answer, refused, given}
 use Rattle.query.specs.Query.{Witnessed}
-use Rattle.query.specs.Memory.{Stays, workUsed, tapesFrom, tapesIn, tapeUsed}
+use Rattle.query.specs.Memory.{Stays, workUsed, tapesIn, tapeUsed}
 use Rattle.query.proofs.Answers.{exact-answer-unique}
 use Rattle.query.proofs.Meeting.{stays-agree}
+use Rattle.witness.proofs.Unique.{tapes-same}
 use Rattle.exact.specs.declared.Exact.{Exact}
 use Rattle.exact.specs.declared.Exact.the-variants.{Refused, Clear, Over}
 use Rattle.exact.specs.Exact.{answerOf, modulesIn, ExactTested}
-
--- Memory whose tapes and whose other bytes are the same.
-tapes-same : (b k n : ℕ) (p q : List ℕ) → tapesFrom k n b p ≡ tapesFrom k n b q → drop ((k + n) * b) p ≡ drop ((k + n) * b) q → drop (k * b) p ≡ drop (k * b) q
-tapes-same b k zero p q e rest = rw add-zero at rest
-tapes-same b k (suc n) p q e rest =
-    let head : take b (drop (k * b) p) ≡ take b (drop (k * b) q) = cc in
-    let tail : tapesFrom (suc k) n b p ≡ tapesFrom (suc k) n b q = cc in
-    let sum : k + suc n ≡ suc k + n = omega arith in
-    let next : k * b + b ≡ suc k * b = omega arith in
-    let behind : drop b (drop (k * b) p) ≡ drop b (drop (k * b) q) = drop-drop b (k * b) p ∙ rw next (tapes-same b (suc k) n p q tail (rw sum at rest)) ∙ sym (drop-drop b (k * b) q) in
-    sym (take-append-drop b (drop (k * b) p)) ∙ rw (head, behind) (take-append-drop b (drop (k * b) q))
 
 apart : {C : Type 0} {v : Witnessed} {number place : ℕ} → refused number place ≡ given v → C
 apart e = let z : _≡_ {A = ℕ} 0 1 = cc in absurd (omega arith)
@@ -86,4 +74,4 @@ exact-unique {bytes} {w} {u} {v} {t} {p} {q} {r} {s} g h = record {
         let verdicts : Verdict.Exact.over (x .start) (x .end) (x .demand) ≡ Verdict.Exact.over (y .start) (y .end) (y .demand) = ap verdictIn e in
         let end : x .end ≡ y .end = cc in
         let tapes : tapesIn n (x .end) p ≡ tapesIn n (y .end) q = ap tapesOf e in
-        rw zero-mul at (tapes-same (x .end) 0 n p q (rw (sym end) at tapes) (rw (sym (zero-add n)) at (sym rest)))
+        tapes-same n (x .end) p q (rw (sym end) at tapes) (sym rest)

@@ -214,3 +214,25 @@ never-both bs n p s r a =
     let h : judgement bs ≡ accepted s = acceptance-judgement bs s a in
     let z : _≡_ {A = ℕ} 0 1 = cc in
     omega arith
+
+-- Each fault of a sheet has one of the numbers 1 to 8.
+
+field-number : (m : Mark) → (5 ≤ fieldNumber m) × (fieldNumber m ≤ 7)
+field-number HZ = omega arith
+field-number ML = omega arith
+field-number MD = omega arith
+field-number TK = omega arith
+field-number SW = omega arith
+field-number EN = omega arith
+
+refusal-number : (bs : List ℕ) (n p : ℕ) → Refusal bs n p → (1 ≤ n) × (n ≤ 8)
+refusal-number bs n p (no-mark rs f e g l k) = omega arith
+refusal-number bs n p (unknown-mark rs f e g l u k) = omega arith
+refusal-number bs n p (cut-short rs f e g l m u c k) = omega arith
+refusal-number bs n p (out-of-order rs f e g m w o k) = omega arith
+refusal-number bs n p (past-count rs f e g m w o c k) = omega arith
+refusal-number bs n p (bad-field rs f e g m w o c v k) = omega (arith, field-number m)
+refusal-number bs n p (bytes-after rs f e g l k) = omega arith
+
+pub refused-number : (bs : List ℕ) (n p : ℕ) → judgement bs ≡ refused n p → (1 ≤ n) × (n ≤ 8)
+refused-number bs n p e = refusal-number bs n p (judgement-refusal bs n p e)

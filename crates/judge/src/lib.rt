@@ -3,7 +3,7 @@ ghost use mathlib.Core.Path.{_≡_};
 ghost use mathlib.Core.List.{[]};
 ghost use Prim.Native.Nat.{_+_, _≤_};
 ghost use lib.ListN.{length};
-ghost use Rattle.model.specs.Limits.{maxModes, maxModeTasks, maxBytes, workNumbers};
+ghost use Rattle.model.specs.Limits.{maxModes, maxModeTasks, maxBytes};
 ghost use Rattle.format.specs.Record.{HZ, ML, MD, TK, SW, EN, sw, size, markCoded, markAt, recordAt};
 ghost use Rattle.format.specs.Rules.{between, divides, taskRuled};
 ghost use Rattle.format.specs.Judgement.{judgement};
@@ -206,19 +206,6 @@ impl Sheet {
 
     // The lent working memory.
     pub const WORK_NUMBERS: usize = memory::WORK_NUMBERS;
-
-    // The two limits that no test of a record names.
-    pub fn most_bytes() -> usize
-        ensures { λ r. ⌜ r ≡ maxBytes ⌝ }
-    {
-        Self::MAX_BYTES
-    }
-
-    pub fn work_numbers() -> usize
-        ensures { λ r. ⌜ r ≡ workNumbers ⌝ }
-    {
-        Self::WORK_NUMBERS
-    }
 
     // Before the first record.
     pub fn new() -> Self

@@ -121,10 +121,10 @@ module _ (m : Module) (ok : ModuleRule m) (s : Shape) (numbers : List ℕ) (told
   -- No number is too large.
 
   -- what w holds of a state after n steps
-  found : ℕ → List ℕ → State → ℕ
+  pub found : ℕ → List ℕ → State → ℕ
   found n w x = look w (place m (x .mode) ((x .time + n) % modeAt m (x .mode) .period))
 
-  found-holds : (n : ℕ) (w : List ℕ) → total (s .periods) (s .modes) ≤ length w → Holds m n (found n w) w
+  pub found-holds : (n : ℕ) (w : List ℕ) → total (s .periods) (s .modes) ≤ length w → Holds m n (found n w) w
   unfolding found
   found-holds n w room = record { room = omega (arith, states-told m s numbers told); holds = λ k d h i. refl }
 

@@ -1,5 +1,5 @@
 -- Each result, and each layer that is left, is the only one that meets its contract. (Where a contract is an equation, nothing is left to show.) Assumes nothing.
-use mathlib.Core.Path.{_≡_, refl, sym, _∙_}
+use mathlib.Core.Path.{_≡_, sym, _∙_}
 use mathlib.Core.List.{List}
 use Prim.Native.Nat.{ℕ, zero, suc, _+_, _-_, _%_, _≤_, _<_}
 use native.Mathlib.Decide.{decLt}
@@ -7,12 +7,12 @@ use native.Mathlib.Omega.{arith}
 use lib.ListN.{length}
 use lib.Seq.{ext-getD}
 use Rattle.model.specs.Sheet.{Module}
-use Rattle.model.specs.Run.{State, modeAt}
+use Rattle.model.specs.Run.{State}
 use Rattle.layers.specs.declared.Shape.{Shape}
 use Rattle.layers.specs.Step.{sumBelow, look, total, period, Cleared}
-use Rattle.layers.specs.Layer.{place, Holds, Told, Tells, Each, IsLayer, Advanced, Steppable, SteppedBy}
+use Rattle.layers.specs.Layer.{Holds, Told, Tells, Each, IsLayer, Advanced, Steppable, SteppedBy}
 use Rattle.layers.proofs.Turns.{turn-back}
-use Rattle.layers.proofs.Layers.{states-told, held-told}
+use Rattle.layers.proofs.Layers.{held-told, found-holds}
 
 -- memory that came as w, and of which all but the first n numbers stay, is the same where these are
 pub memory-unique : (n : ℕ) (w u v : List ℕ) → length u ≡ length w → length v ≡ length w → ((x : ℕ) → n ≤ x → look u x ≡ look w x) → ((x : ℕ) → n ≤ x → look v x ≡ look w x)
@@ -61,16 +61,8 @@ holds-unique {m} {s} {numbers} told {n} {f} w u v len len′ above above′ g h 
 -- advance_by: of the states w holds what stands there
 pub stepped-by-unique : {s : Shape} {numbers : List ℕ} {l n : ℕ} {w u v : List ℕ} → Steppable s numbers w → SteppedBy s numbers l n w u → SteppedBy s numbers l n w v → u ≡ v
 stepped-by-unique {s} {numbers} {l} {n} {w} {u} {v} can g h =
-    holds-unique (can .told) w u v (g .len) (h .len) (g .above) (h .above) (g .holds m (can .rule) (can .told) f held) (h .holds m (can .rule) (can .told) f held)
-  where
-    m : Module
-    m = can .owner
-
-    f : State → ℕ
-    f x = look w (place m (x .mode) ((x .time + n) % modeAt m (x .mode) .period))
-
-    held : Holds m n f w
-    held = record { room = omega (arith, states-told m s numbers (can .told), can .room); holds = λ k d i j. refl }
+    let held = found-holds (can .owner) (can .rule) s numbers (can .told) n w (can .room) in
+    holds-unique (can .told) w u v (g .len) (h .len) (g .above) (h .above) (g .holds (can .owner) (can .rule) (can .told) _ held) (h .holds (can .owner) (can .rule) (can .told) _ held)
 
 -- advance
 pub advanced-unique : {s : Shape} {numbers : List ℕ} {L : ℕ} {w u v : List ℕ} → IsLayer s numbers L w → Advanced s numbers L w u → Advanced s numbers L w v → u ≡ v

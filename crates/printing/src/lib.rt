@@ -1,21 +1,40 @@
 // What the program prints for the bytes of a sheet: its report, or the line that says why it is refused.
 ghost use mathlib.Core.Path.{_≡_};
-ghost use Prim.Native.Nat.{_≤_};
-ghost use lib.ListN.{length as count, take};
-ghost use Rattle.model.specs.Limits.{workNumbers};
-ghost use Rattle.report.specs.Report.{outBytes};
-ghost use Rattle.printing.specs.Printed.{tapeBytes, Printed};
+ghost use Prim.Native.Nat.{_<_};
+ghost use lib.ListN.{length as count};
+ghost use Rattle.printing.specs.Printed.{Refusing, Printed, Counted};
+use judge::Sheet;
+use report::MEMORY_TOO_SMALL;
+use report::OUT_BYTES;
 use report::Report;
 
-/// The lines for these bytes, from the beginning of the output memory on, and how many bytes they are.
-pub fn put_lines(sheet: &[u8], work: &mut [u32], tape: &mut [u8], out: &mut [u8]) -> usize
-    requires { ⌜ (workNumbers ≤ count (now work)) × (tapeBytes ≤ count (now tape)) × (outBytes ≤ count (now out)) ⌝ }
+/// The tape memory that is enough for every sheet.
+pub const TAPE_BYTES: usize = Sheet::MAX_MODULES as usize * Sheet::MAX_HORIZON as usize;
+
+// The line of a refused report: too little memory has none, and a sheet's fault has one where there is room for any lines.
+fn put_refusal(out: &mut [u8], number: u8, place: usize) -> Report
+    ensures { λ r. ⌜ Refusing number place (now (out .entry)) (now (out .exit)) r ⌝ }
+{
+    if number == MEMORY_TOO_SMALL {
+        return Report::Refused { number, place };
+    }
+    if out.len() < OUT_BYTES {
+        return Report::Refused { number, place };
+    }
+    Report::Written {
+        count: writing::refused_line(out, 0, number, place),
+    }
+}
+
+/// The lines for these bytes, from the beginning of the output memory on, and how many bytes they are. Too little memory is refused (10), after a
+/// sheet's fault where there is no room for its line.
+pub fn put_lines(sheet: &[u8], work: &mut [u32], tape: &mut [u8], out: &mut [u8]) -> Report
     ensures { λ r. ⌜ Printed (now (sheet .entry)) (now (work .entry)) (now (work .exit)) (now (tape .entry)) (now (tape .exit)) (now (out .entry)) (now (out .exit)) r ⌝ }
-    ensures { λ r. ⌜ (r ≤ count (now (out .exit))) × (r ≡ count (take r (now (out .exit)))) ⌝ }
+    ensures { λ r. ⌜ Counted (now (out .exit)) r ⌝ }
 {
     let answer = report::write_report(sheet, work, tape, out);
     match answer {
-        Report::Refused { number, place } => writing::refused_line(out, 0, number, place),
-        Report::Written { count } => count,
+        Report::Refused { number, place } => put_refusal(out, number, place),
+        Report::Written { count } => Report::Written { count },
     }
 }

@@ -43,9 +43,9 @@ enum Asked {
 }
 
 // The refusal number of too little memory, and the bytes that hold any report.
-const MEMORY_TOO_SMALL: u8 = 10;
+pub const MEMORY_TOO_SMALL: u8 = 10;
 
-const OUT: usize = 16384;
+pub const OUT_BYTES: usize = 16384;
 
 // Whether the memory of each kind is enough.
 fn enough(modules: usize, horizon: usize, work: usize, tape: usize, out: usize) -> bool
@@ -53,7 +53,7 @@ fn enough(modules: usize, horizon: usize, work: usize, tape: usize, out: usize) 
     ensures { λ r. ⌜ r ≡ leb workNumbers work && leb (modules * horizon) tape && leb outBytes out ⌝ }
 {
     if exact::is_enough(modules, horizon, work, tape) {
-        return OUT <= out;
+        return OUT_BYTES <= out;
     }
     false
 }

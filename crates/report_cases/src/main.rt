@@ -1,11 +1,15 @@
 // Prints the reports on the worked sheets A, B, F, G and H of document 01 and on damaged bytes, as the program prints them.
+use judge::Sheet;
+use report::Report;
 
 fn print(sheet: &[u8]) {
-    let mut work = [0u32; 16384];
-    let mut tape = [0u8; 16000];
-    let mut out = [0u8; 16384];
-    let count = printing::put_lines(sheet, &mut work, &mut tape, &mut out);
-    io::write_all(1, &out[..count]);
+    let mut work = [0u32; Sheet::WORK_NUMBERS];
+    let mut tape = [0u8; printing::TAPE_BYTES];
+    let mut out = [0u8; report::OUT_BYTES];
+    let lines = printing::put_lines(sheet, &mut work, &mut tape, &mut out);
+    if let Report::Written { count } = lines {
+        io::write_all(1, &out[..count]);
+    }
 }
 
 fn main() {

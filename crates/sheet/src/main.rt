@@ -1,11 +1,15 @@
-// Reads a sheet from standard input, at most 3,625 bytes, and prints its report, or why it is refused.
+// Reads a sheet from standard input, at most one byte more than the longest one has, and prints its report, or why it is refused.
+use judge::Sheet;
+use report::Report;
 
 fn main() {
-    let mut bytes = [0u8; 3625];
-    let mut work = [0u32; 16384];
-    let mut tape = [0u8; 16000];
-    let mut out = [0u8; 16384];
+    let mut bytes = [0u8; Sheet::MAX_BYTES + 1];
+    let mut work = [0u32; Sheet::WORK_NUMBERS];
+    let mut tape = [0u8; printing::TAPE_BYTES];
+    let mut out = [0u8; report::OUT_BYTES];
     let n = io::read_full(0, &mut bytes);
-    let count = printing::put_lines(&bytes[..n], &mut work, &mut tape, &mut out);
-    io::write_all(1, &out[..count]);
+    let lines = printing::put_lines(&bytes[..n], &mut work, &mut tape, &mut out);
+    if let Report::Written { count } = lines {
+        io::write_all(1, &out[..count]);
+    }
 }
