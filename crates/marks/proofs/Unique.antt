@@ -7,7 +7,7 @@ use native.Mathlib.Nat.{pow-zero, pow-succ', div-one, div-div-eq-div-mul, mod-lt
 use native.Mathlib.Decide.{decLt, ℕ-discrete as decEq}
 use native.Mathlib.Omega.{arith}
 use lib.Dec.{eqb}
-use lib.ListN.{length, getD}
+use lib.ListN.{getD}
 use lib.Seq.{ext-getD}
 use borrow.Author.Tests.{eqb-true, eq-eqb}
 use Rattle.layers.specs.declared.Shape.{Shape}
@@ -38,6 +38,7 @@ abbrev pub Small : List ℕ → Type 0
 Small w = (x : ℕ) → getD w x 0 < 2 ^ 32
 
 module _ {s : Shape} {h : ℕ} {w numbers : List ℕ} (t : Tells s numbers) where
+  -- what the one marks the other marks
   also : {u v : List ℕ} → Entered s h w u → Entered s h w v → (k x : ℕ) → k < 8 → x < 2016 → marked u k x ≡ true → marked v k x ≡ true
   also a b k x i j o =
       let (there, within) = a .inside k x i j o in

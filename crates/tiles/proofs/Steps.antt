@@ -89,6 +89,7 @@ module _ (s : Shape) (numbers : List ℕ) (l : ℕ) (w ys : List ℕ) (room : 16
   next-marks m last = subst (Marks m last) (sym (part-behind advancing 10193 504 (omega arith)))
 
   module _ (lo : ℕ) (fig : List ℕ) (before : Each s numbers (λ m. Progress m lo l w fig)) where
+    -- the module that is told has what its figures for one tick more need
     abbrev pub growable : Tells s numbers → Growable s numbers (layerPart w′) (marksPart w′) lo (l + 1) fig
     growable t =
         let back : l + 1 - 1 ≡ l = omega arith in
