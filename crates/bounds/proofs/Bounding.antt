@@ -23,7 +23,7 @@ use Rattle.figures.specs.Offers.{Below, ShapeOffer}
 use Rattle.figures.proofs.Tiles.{offer-reached, reached-offer}
 use Rattle.tiles.specs.Tiles.{Within, Begun}
 use Rattle.tiles.proofs.Parts.{part-behind}
-use Rattle.tiles.proofs.Steps.{advancing, next-layer, next-marks}
+use Rattle.tiles.proofs.Steps.{begun-layer, advancing, next-layer, next-marks}
 use Rattle.bounds.specs.Tops.{Topped}
 use Rattle.bounds.specs.Bounds.{Bound, Progress, Progressed}
 use Rattle.bounds.proofs.Tops.{top-keeps, top-offered, top-only}
@@ -57,10 +57,10 @@ module _ (m : Module) (ok : ModuleRule m) (s : Shape) (numbers : List ℕ) (told
 
 -- What a module has come to: with no tick, with one tick more, and where only numbers before the layer have changed.
 
-pub progress-start : (s : Shape) (numbers : List ℕ) (lo width last : ℕ) (w w′ : List ℕ) → last ≡ pred (lo + width) → Begun s last w w′ → Each s numbers (λ m. Progress m lo width 0 w′ 0)
-progress-start s numbers lo width last w w′ e start m ok told = record {
-  layer = start .layer numbers m ok told;
-  marks = rw (sym e) (start .marks numbers m ok told);
+pub progress-start : (s : Shape) (numbers : List ℕ) (lo width last : ℕ) (w w′ : List ℕ) → 16384 ≤ length w → last ≡ pred (lo + width) → Begun s last w w′ → Each s numbers (λ m. Progress m lo width 0 w′ 0)
+progress-start s numbers lo width last w w′ room e start m ok told = record {
+  layer = begun-layer numbers room start m ok told;
+  marks = rw (sym e) (start .marks .marks m numbers ok told);
   bound = λ i h. rw sub-zero (omega (arith, figure-end m ok (lo + i)));
   low = omega arith;
 }

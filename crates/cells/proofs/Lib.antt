@@ -3,3 +3,4 @@ pub mod Widths
 pub mod Lengths
 pub mod Clearing
 pub mod Searching
+pub mod Unique

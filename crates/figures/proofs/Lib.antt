@@ -3,3 +3,4 @@ pub mod Raises
 pub mod Offered
 pub mod Cells
 pub mod Tiles
+pub mod Unique

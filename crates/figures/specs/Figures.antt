@@ -17,6 +17,17 @@ use Rattle.marks.specs.Marks.{Marks}
 abbrev pub Figures : Module → ℕ → ℕ → List ℕ → Type 0
 Figures m L lo fig = (i : ℕ) → i < length fig → look fig i ≡ value m (lo + i - L) (lo + i) first
 
+-- the numbers tell a module, whose layer for l ticks and marks up to the last end are there, and whose figures are those for a tick less
+pub record Growable (s : Shape) (numbers layer bits : List ℕ) (lo l : ℕ) (fig : List ℕ) : Type 0 where
+  pub owner : Module
+  pub rule : ModuleRule owner
+  pub told : Told owner s numbers
+  pub holds : Layer owner l layer
+  pub horizon : ℕ
+  pub marks : Marks owner horizon bits
+  pub ends : lo + length fig ≤ horizon + 1
+  pub figures : Figures owner (l - 1) lo fig
+
 -- of whichever module the numbers tell, the figures for a tick less have become those for l ticks
 pub record Grown (s : Shape) (numbers layer bits : List ℕ) (lo l : ℕ) (fig fig′ : List ℕ) : Type 0 where
   pub len : length fig′ ≡ length fig

@@ -4,9 +4,8 @@ ghost use mathlib.Core.Bool.{false};
 ghost use Prim.Native.Nat.{ℕ, _+_, _-_, _*_, _/_, _^_, _<_, _≤_};
 ghost use lib.ListN.{length};
 ghost use Rattle.layers.specs.Step.{look, total, period, TasksReady, ModeReady};
-ghost use Rattle.layers.specs.Layer.{IsLayer};
 ghost use Rattle.memory.specs.Map.{rowTicks, markNumbers};
-ghost use Rattle.figures.specs.Figures.{Grown, Added};
+ghost use Rattle.figures.specs.Figures.{Growable, Grown, Added};
 ghost use Rattle.figures.specs.Offers.{Raised, TickOffer, TimeOffer, TaskOffer, ModeOffer, ShapeOffer, Quiet, AnyMark, Room};
 use layers::Shape;
 use layers::larger;
@@ -174,7 +173,7 @@ pub fn raise_figures(
     shape: Shape,
     numbers: &[u16],
 )
-    requires { ⌜ (1 ≤ l) × (l ≤ 2000) × (lo + length (now fig) ≤ 2001) × (markNumbers ≤ length (now bits)) × (IsLayer shape (now numbers) l (now layer)) ⌝ }
+    requires { ⌜ (1 ≤ l) × (l ≤ 2000) × (lo + length (now fig) ≤ 2001) × (markNumbers ≤ length (now bits)) × (Growable shape (now numbers) (now layer) (now bits) lo l (now fig)) ⌝ }
     ensures { λ _. ⌜ Grown shape (now (numbers .entry)) (now (layer .entry)) (now (bits .entry)) lo l (now (fig .entry)) (now (fig .exit)) ⌝ }
 {
     let n = shape.modes;

@@ -1,3 +1,4 @@
 pub mod Bits
 pub mod Markings
 pub mod Walk
+pub mod Unique

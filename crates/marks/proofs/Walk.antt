@@ -21,7 +21,7 @@ use Rattle.layers.specs.Step.{Cleared}
 use Rattle.layers.specs.Layer.{Told}
 use Rattle.layers.proofs.Layers.{told-ready}
 use Rattle.marks.specs.Marks.{marked}
-use Rattle.marks.specs.Marking.{Marking, Follows, again, switched, Tick, Walkable, Walked, Followed, Kept, Entered}
+use Rattle.marks.specs.Marking.{Marking, Follows, again, switched, Tick, Walkable, Walked, Inside, Followed, Kept, Entered}
 use Rattle.marks.proofs.Markings.{follows-later, walked-kept, tick-later, tick-same}
 
 -- the numbers that tell a module can be walked
@@ -46,12 +46,16 @@ blank w w′ c k t hk ht o =
     let q : 0 / 2 ^ (t % 32) % 2 ≡ 1 = ap (λ (v : ℕ). v / 2 ^ (t % 32) % 2) (sym z) ∙ eqb-true _ _ o in
     omega (arith, zero-div (2 ^ (t % 32)))
 
-pub followed-start : (s : Shape) (h : ℕ) (w w′ w″ : List ℕ) → h ≤ 2000 → 504 ≤ length w → Cleared 504 w w′ → Marking (λ j x. (j ≡ 0) × (x ≡ 0)) w′ w″ → Followed s h 0 w″
-followed-start s h w w′ w″ most room c A = record {
+pub followed-start : (s : Shape) (h : ℕ) (w w′ w″ : List ℕ) → 1 ≤ s .modes → h ≤ 2000 → 504 ≤ length w → Cleared 504 w w′ → Marking (λ j x. (j ≡ 0) × (x ≡ 0)) w′ w″ → Followed s h 0 w″
+followed-start s h w w′ w″ some most room c A = record {
   walked = record { room = record { within = omega arith; most = most; numbers = omega (arith, A .len, c .len) }; closed = λ k e j x i l. absurd (omega arith) };
   first = A .new 0 0 (omega arith) (omega arith) (refl, refl);
-  sound = λ m numbers rule told k t i l o. let j : k < 8 = omega (arith, rule .most) in ⊎-elim (λ z. absurd (blank w w′ c k t j (omega arith) z)) (λ z. begins (z .0) (z .1)) (A .only k t j (omega arith) o);
+  inside = λ k t i l o. let (a, b) = alone k t i l o in (omega arith, omega arith);
+  sound = λ m numbers rule told k t i l o. let (a, b) = alone k t (omega (arith, rule .most)) (omega arith) o in begins a b;
 }
+  where
+    alone : (k t : ℕ) → k < 8 → t < 2016 → marked w″ k t ≡ true → (k ≡ 0) × (t ≡ 0)
+    alone k t i l o = ⊎-elim (λ z. absurd (blank w w′ c k t i l z)) (λ z. z) (A .only k t i l o)
 
 -- By the numbers a mode leads to what it leads to in the module that they tell.
 
@@ -95,8 +99,11 @@ module _ (s : Shape) (h n : ℕ) (ok : Walkable s) {w w′ : List ℕ} (i : n < 
               A .new j x (omega (arith, ok .few)) (omega (arith, W .room .most)) (record { mode = k; there = l; on = on; follows = rw same at f })
 
   pub followed-more : Followed s h n w → Followed s h (n + 1) w′
-  followed-more F = record { walked = walked-more (F .walked); first = A .old 0 0 (omega arith) (omega arith) (F .first); sound = sound }
+  followed-more F = record { walked = walked-more (F .walked); first = A .old 0 0 (omega arith) (omega arith) (F .first); inside = inside; sound = sound }
     where
+      inside : Inside s h w′
+      inside k x i l o = ⊎-elim (F .inside k x i l) (λ z. let (there, later, within) = follows-later s h (z .mode) n k x ok (z .there) (z .follows) in (there, within)) (A .only k x i l o)
+
       sound : (m : Module) (numbers : List ℕ) → ModuleRule m → Told m s numbers → (k x : ℕ) → k < length (m .modes) → x ≤ h → marked w′ k x ≡ true → Entry m k x
       sound m numbers rule told k x l b o =
           ⊎-elim
@@ -126,4 +133,5 @@ entered s h {end = end} c A K F = record {
   len = K .len ∙ A .len ∙ c .len;
   above = λ x l. K .above x l ∙ A .above x l ∙ c .above x l;
   marks = λ m numbers rule told. record { sound = F .sound m numbers rule told; complete = λ k t l. entries-marked s h end F m numbers rule told (suc t) k t (omega arith) l };
+  inside = F .inside;
 }

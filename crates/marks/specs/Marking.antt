@@ -69,10 +69,15 @@ pub record Walked (s : Shape) (h t : ℕ) (w : List ℕ) : Type 0 where
   pub room : Room h t w
   pub closed : (k e j x : ℕ) → k < s .modes → e < t → marked w k e ≡ true → Follows s h k e j x → marked w j x ≡ true
 
--- it has come from the first entry: that is marked, and the marks are entries of whichever module the numbers tell
+-- every mark is that of a mode, at a tick up to the horizon h
+abbrev pub Inside : Shape → ℕ → List ℕ → Type 0
+Inside s h w = (k t : ℕ) → k < 8 → t < rowTicks → marked w k t ≡ true → (k < s .modes) × (t ≤ h)
+
+-- it has come from the first entry: that is marked, and the marks, of modes up to the horizon, are entries of whichever module the numbers tell
 pub record Followed (s : Shape) (h t : ℕ) (w : List ℕ) : Type 0 where
   pub walked : Walked s h t w
   pub first : marked w 0 0 ≡ true
+  pub inside : Inside s h w
   pub sound : (m : Module) (numbers : List ℕ) → ModuleRule m → Told m s numbers → (k x : ℕ) → k < length (m .modes) → x ≤ h → marked w k x ≡ true → Entry m k x
 
 -- the numbers behind the rows are as they were
@@ -80,8 +85,10 @@ pub record Kept (w w′ : List ℕ) : Type 0 where
   pub len : length w′ ≡ length w
   pub above : (x : ℕ) → markNumbers ≤ x → getD w′ x 0 ≡ getD w x 0
 
--- of whichever module the numbers tell, the marks up to the horizon are the entries; the numbers behind the rows are as they were
+-- of whichever module the numbers tell, the marks are the entries up to the horizon, and nothing else is marked; the numbers behind the rows are as
+-- they were
 pub record Entered (s : Shape) (h : ℕ) (w w′ : List ℕ) : Type 0 where
   pub len : length w′ ≡ length w
   pub above : (x : ℕ) → markNumbers ≤ x → getD w′ x 0 ≡ getD w x 0
   pub marks : (m : Module) (numbers : List ℕ) → ModuleRule m → Told m s numbers → Marks m h w′
+  pub inside : Inside s h w′

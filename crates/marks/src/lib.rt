@@ -1,10 +1,12 @@
 // At which ticks the modes of a module can be begun.
 ghost use mathlib.Core.Path.{_≡_};
 ghost use mathlib.Core.Bool.{true, false};
+ghost use mathlib.Core.List.{List};
 ghost use Prim.Native.Nat.{ℕ, _+_, _-_, _*_, _/_, _≤_, _<_, max};
 ghost use lib.ListN.{length};
 ghost use Rattle.memory.specs.Map.{rowTicks, markNumbers};
 ghost use Rattle.layers.specs.Step.{period, lists, every};
+ghost use Rattle.layers.specs.Layer.{Tells};
 ghost use Rattle.marks.specs.Marks.{marked};
 ghost use Rattle.marks.specs.Marking.{Marking, Room, Stride, Laid, Opens, Follows, Tick, Walkable, Walked, Followed, Kept, Entered};
 use layers::Shape;
@@ -145,7 +147,7 @@ fn follow(bits: &mut [u32], horizon: usize, shape: Shape)
 
 // The ticks up to the horizon at which the modes can be begun.
 pub fn mark_entries(bits: &mut [u32], horizon: usize, shape: Shape)
-    requires { ⌜ (horizon ≤ 2000) × (markNumbers ≤ length (now bits)) × (Walkable shape) ⌝ }
+    requires { ⌜ ((numbers : List ℕ) × Tells shape numbers) × (horizon ≤ 2000) × (markNumbers ≤ length (now bits)) ⌝ }
     ensures { λ _. ⌜ Entered shape horizon (now (bits .entry)) (now (bits .exit)) ⌝ }
 {
     layers::clear(bits, MARK_NUMBERS);

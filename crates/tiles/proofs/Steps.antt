@@ -8,14 +8,15 @@ use borrow.Rule.Slice.PartMut.{putMid, midOf, mid-len}
 use Rattle.model.specs.Sheet.{Module}
 use Rattle.layers.specs.declared.Shape.{Shape}
 use Rattle.layers.specs.Step.{look, total, Cleared}
-use Rattle.layers.specs.Layer.{Layer, Each, Advanced}
+use Rattle.layers.specs.Layer.{Layer, Tells, Each, Advanced}
+use Rattle.layers.proofs.Layers.{layer-start}
 use Rattle.layers.proofs.Parts.{part-length}
 use Rattle.memory.specs.Map.{layerPart, marksPart}
 use Rattle.sums.specs.Sums.{Layered}
-use Rattle.sums.proofs.Sums.{part-size, part-start, layered-more}
+use Rattle.sums.proofs.Sums.{part-size, told-states, layered-more}
 use Rattle.marks.specs.Marks.{Marks}
 use Rattle.marks.specs.Marking.{Entered}
-use Rattle.figures.specs.Figures.{Grown}
+use Rattle.figures.specs.Figures.{Growable, Grown}
 use Rattle.figures.proofs.Tiles.{figures-start}
 use Rattle.tiles.specs.Tiles.{Within, Progress, Begun, Progressed}
 use Rattle.tiles.proofs.Parts.{part-look, part-before, part-behind, within-wider, within-then, put-within, put-part}
@@ -26,8 +27,8 @@ pub begun : (s : Shape) (last n : ℕ) (w ys zs : List ℕ) → 16384 ≤ length
     → Entered s last (marksPart w) ys → Cleared n (layerPart (putMid 10193 504 w ys)) zs → Begun s last w (putMid 2001 8192 (putMid 10193 504 w ys) zs)
 begun s last n w ys zs room e entered cleared = record {
   within = within-then (within-wider marking 2001 10697 (omega arith) (omega arith)) (within-wider clearing 2001 10697 (omega arith) (omega arith));
-  layer = λ numbers m ok told. part-start s numbers n marked zs (record { owner = m; rule = ok; told = told }) room′ e cleared m ok told;
-  marks = λ numbers m ok told. subst (Marks m last) (sym (part-behind clearing 10193 504 (omega arith) ∙ put-part 10193 504 w ys (omega arith) size)) (entered .marks m numbers ok told);
+  layer = rw (← e, put-part 2001 8192 marked zs (omega (arith, room′)) (cleared .len ∙ part-size marked room′), ← part-before marking 2001 8192 (omega arith)) cleared;
+  marks = subst (Entered s last (marksPart w)) (sym (part-behind clearing 10193 504 (omega arith) ∙ put-part 10193 504 w ys (omega arith) size)) entered;
 }
   where
     marked : List ℕ
@@ -45,6 +46,11 @@ begun s last n w ys zs room e entered cleared = record {
     clearing : Within 2001 10193 marked (putMid 2001 8192 marked zs)
     clearing = put-within 2001 8192 marked zs (omega (arith, room′)) (cleared .len ∙ part-size marked room′)
 
+-- the numbers of the states are those for no tick
+pub begun-layer : {s : Shape} {last : ℕ} {w w′ : List ℕ} (numbers : List ℕ) → 16384 ≤ length w → Begun s last w w′ → Layered s numbers 0 (layerPart w′)
+begun-layer {s} {last} {w} {w′} numbers room start m ok told =
+    layer-start m s numbers told (layerPart w) (layerPart w′) (omega (arith, part-size w room, told-states s numbers (record { owner = m; rule = ok; told = told }))) (start .layer)
+
 -- The figures for no tick: the first of 512 zeros.
 
 abbrev none : ℕ → List ℕ
@@ -57,10 +63,10 @@ module _ (width : ℕ) (few : width ≤ 512) where
   none-look : (i : ℕ) → i < length (none width) → look (none width) i ≡ 0
   none-look i h = part-look 0 (width - 0) (replicate 512 0) i (omega (arith, none-length)) ∙ getD-replicate 512 (0 + i) 0 0 (omega (arith, none-length))
 
-  pub progress-start : (s : Shape) (numbers : List ℕ) (lo last : ℕ) (w w′ : List ℕ) → last ≡ pred (lo + width) → Begun s last w w′ → Each s numbers (λ m. Progress m lo 0 w′ (none width))
-  progress-start s numbers lo last w w′ e start m ok told = record {
-    layer = start .layer numbers m ok told;
-    marks = rw (none-length, sym e) (start .marks numbers m ok told);
+  pub progress-start : (s : Shape) (numbers : List ℕ) (lo last : ℕ) (w w′ : List ℕ) → 16384 ≤ length w → last ≡ pred (lo + width) → Begun s last w w′ → Each s numbers (λ m. Progress m lo 0 w′ (none width))
+  progress-start s numbers lo last w w′ room e start m ok told = record {
+    layer = begun-layer numbers room start m ok told;
+    marks = rw (none-length, sym e) (start .marks .marks m numbers ok told);
     figures = figures-start m ok lo (none width) (none width) (record { len = refl; zeros = none-look; above = λ x h. refl });
   }
 
@@ -82,20 +88,30 @@ module _ (s : Shape) (numbers : List ℕ) (l : ℕ) (w ys : List ℕ) (room : 16
   pub next-marks : (m : Module) (last : ℕ) → Marks m last (marksPart w) → Marks m last (marksPart w′)
   next-marks m last = subst (Marks m last) (sym (part-behind advancing 10193 504 (omega arith)))
 
-  pub progressed : (lo : ℕ) (fig fig′ : List ℕ) → Each s numbers (λ m. Progress m lo l w fig) → Grown s numbers (layerPart w′) (marksPart w′) lo (l + 1) fig fig′
-      → Progressed s numbers lo (l + 1) w w′ fig fig′
-  progressed lo fig fig′ before grown = record { within = advancing; size = grown .len; each = each }
-    where
-      each : Each s numbers (λ m. Progress m lo (l + 1) w′ fig′)
-      each m ok told =
-          let layer = next-layer (λ m ok told. before m ok told .layer) m ok told in
-          let marks = next-marks m (pred (lo + length fig)) (before m ok told .marks) in
-          let back : l + 1 - 1 ≡ l = omega arith in
-          record {
-            layer = layer;
-            marks = rw (grown .len) marks;
-            figures = grown .figures m (pred (lo + length fig)) ok told layer marks (omega arith) (rw back (before m ok told .figures));
-          }
+  module _ (lo : ℕ) (fig : List ℕ) (before : Each s numbers (λ m. Progress m lo l w fig)) where
+    -- the module that is told has what its figures for one tick more need
+    abbrev pub growable : Tells s numbers → Growable s numbers (layerPart w′) (marksPart w′) lo (l + 1) fig
+    growable t =
+        let back : l + 1 - 1 ≡ l = omega arith in
+        let old = before (t .owner) (t .rule) (t .told) in
+        record {
+          owner = t .owner;
+          rule = t .rule;
+          told = t .told;
+          holds = next-layer (λ m ok told. before m ok told .layer) (t .owner) (t .rule) (t .told);
+          horizon = pred (lo + length fig);
+          marks = next-marks (t .owner) (pred (lo + length fig)) (old .marks);
+          ends = omega arith;
+          figures = rw back (old .figures);
+        }
+
+    pub progressed : (fig′ : List ℕ) → Grown s numbers (layerPart w′) (marksPart w′) lo (l + 1) fig fig′ → Progressed s numbers lo (l + 1) w w′ fig fig′
+    progressed fig′ grown = record { within = advancing; size = grown .len; each = each }
+      where
+        each : Each s numbers (λ m. Progress m lo (l + 1) w′ fig′)
+        each m ok told =
+            let g = growable (record { owner = m; rule = ok; told = told }) in
+            record { layer = g .holds; marks = rw (grown .len) (g .marks); figures = grown .figures m (g .horizon) ok told (g .holds) (g .marks) (g .ends) (g .figures) }
 
 -- Where only cells have changed, a module has come to the same.
 

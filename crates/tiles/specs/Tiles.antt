@@ -9,10 +9,11 @@ use Rattle.model.specs.Sheet.{Module}
 use Rattle.model.specs.Run.{first}
 use Rattle.model.specs.Demand.{value}
 use Rattle.layers.specs.declared.Shape.{Shape}
-use Rattle.layers.specs.Step.{look}
+use Rattle.layers.specs.Step.{look, total, Cleared}
 use Rattle.layers.specs.Layer.{Layer, Each}
 use Rattle.memory.specs.Map.{layerFrom, marksFrom, cellsFrom, layerPart, marksPart}
 use Rattle.marks.specs.Marks.{Marks}
+use Rattle.marks.specs.Marking.{Entered}
 use Rattle.figures.specs.Figures.{Figures}
 use Rattle.cells.specs.Cells.{inQuestion, rows, cellAt}
 
@@ -30,11 +31,11 @@ pub record Progress (m : Module) (lo n : ℕ) (w fig : List ℕ) : Type 0 where
   pub marks : Marks m (pred (lo + length fig)) (marksPart w)
   pub figures : Figures m n lo fig
 
--- of whichever module the shape tells, the layer for no tick and the marks up to the last end are there; nothing else has changed
+-- the numbers of the states are 0, and the marks up to the last end are there; nothing else has changed
 pub record Begun (s : Shape) (last : ℕ) (w w′ : List ℕ) : Type 0 where
   pub within : Within layerFrom cellsFrom w w′
-  pub layer : (numbers : List ℕ) → Each s numbers (λ m. Layer m 0 (layerPart w′))
-  pub marks : (numbers : List ℕ) → Each s numbers (λ m. Marks m last (marksPart w′))
+  pub layer : Cleared (total (s .periods) (s .modes)) (layerPart w) (layerPart w′)
+  pub marks : Entered s last (marksPart w) (marksPart w′)
 
 -- whichever module the numbers tell has come to n ticks; of the working memory the layer's part alone has changed
 pub record Progressed (s : Shape) (numbers : List ℕ) (lo n : ℕ) (w w′ fig fig′ : List ℕ) : Type 0 where

@@ -1,13 +1,11 @@
 // One module's part in a tile of ends: its figures, length by length, are added to the cells of the lengths in question.
 ghost use mathlib.Core.Path.{_≡_};
 ghost use mathlib.Core.Bool.{true};
-ghost use Prim.Native.Nat.{pred, _+_, _≤_, _<_};
+ghost use mathlib.Core.List.{List};
+ghost use Prim.Native.Nat.{ℕ, pred, _+_, _≤_, _<_};
 ghost use lib.ListN.{length};
 ghost use Rattle.model.specs.Limits.{workNumbers};
-ghost use Rattle.memory.specs.Map.{layerNumbers};
-ghost use Rattle.layers.specs.Step.{total};
 ghost use Rattle.layers.specs.Layer.{Tells, Each};
-ghost use Rattle.marks.specs.Marking.{Walkable};
 ghost use Rattle.cells.specs.Cells.{inQuestion, Longest, Tile};
 ghost use Rattle.tiles.specs.Tiles.{Progress, Begun, Progressed, RowFits, RowAdded, CellsFit, ModuleAdded};
 use layers::Shape;
@@ -17,7 +15,7 @@ use memory::MARKS_FROM;
 
 // The module's marks up to the last end, and its layer for no tick.
 pub fn begin(work: &mut [u32], last: usize, shape: Shape)
-    requires { ⌜ (last ≤ 2000) × (workNumbers ≤ length (now work)) × (Walkable shape) × (total (shape .periods) (shape .modes) ≤ layerNumbers) ⌝ }
+    requires { ⌜ ((numbers : List ℕ) × Tells shape numbers) × (last ≤ 2000) × (workNumbers ≤ length (now work)) ⌝ }
     ensures { λ _. ⌜ Begun shape last (now (work .entry)) (now (work .exit)) ⌝ }
 {
     marks::mark_entries(&mut work[MARKS_FROM..CELLS_FROM], last, shape);

@@ -1,8 +1,6 @@
 -- `add_bounds` begins the module's part, and goes through the lengths from a bound of 0 for no tick on. Assumes nothing.
 use native.Mathlib.Omega.{arith}
 use borrow.Author.Needs.{needs}
-use Rattle.sums.proofs.Sums.{told-states}
-use Rattle.marks.proofs.Walk.{told-walkable}
 use Rattle.bounds.proofs.Adding.{fits-begun, bounds-begun}
 use Rattle.bounds.proofs.Bounding.{progress-start}
 use Rattle.bounds.proofs.add_bounds.Statement.{statement}
@@ -15,13 +13,13 @@ sub-begin : tie.Need-sub-begin
 sub-begin c = search needs
 
 begin-requires : tie.Need-begin-requires
-begin-requires c κs = let p = c .before .before .before .pre in (omega arith, p .1, told-walkable _ _ _ (p .5 .rule) (p .5 .told), told-states _ _ (p .5))
+begin-requires c κs = let p = c .before .before .before .pre in ((_, p .5), omega arith, p .1)
 
 add-lengths-requires : tie.Need-add-lengths-requires
 add-lengths-requires c κs =
     let p = c .before .before .before .before .before .before .before .pre in
     let begun = c .before .before .before .begin .ensures in
-    (p .0, omega (arith, begun .within .len), p .3, fits-begun _ _ _ (begun .within) (p .0) (p .4), p .5, progress-start _ _ _ _ _ _ _ (omega arith) begun)
+    (p .0, omega (arith, begun .within .len), p .3, fits-begun _ _ _ (begun .within) (p .0) (p .4), p .5, progress-start _ _ _ _ _ _ _ (p .1) (omega arith) begun)
 
 same-length : tie.Need-same-length
 same-length c = search needs

@@ -29,7 +29,7 @@ offer-mode-requires c κs =
     let j = c .before .before .loop in
     let y = s .pre .4 in
     let ready = told-ready (y .owner) (y .rule) _ _ (y .told) in
-    let room = told-room (y .owner) (y .rule) _ _ (y .told) _ _ _ (y .layer) in
+    let room = told-room (y .owner) (y .rule) _ _ (y .told) _ _ _ (y .holds) in
     let before = sum-before (look (a .shape .periods)) (j .k) (a .shape .modes) (omega arith) in (
       j .inv .1,
       omega (arith, before, room),

@@ -1,6 +1,7 @@
 -- `mark_entries` clears the rows, marks the first entry and follows it to the horizon. Assumes nothing.
+use native.Mathlib.Omega.{arith}
 use borrow.Author.Needs.{needs}
-use Rattle.marks.proofs.Walk.{followed-start, entered}
+use Rattle.marks.proofs.Walk.{told-walkable, followed-start, entered}
 use Rattle.marks.proofs.mark_entries.Statement.{statement}
 use Rattle.marks.proofs.mark_entries.Tie as tie
 
@@ -13,7 +14,8 @@ mark-requires c κs = search needs
 follow-requires : tie.Need-follow-requires
 follow-requires c κs =
     let pre = c .before .before .before .before .before .before .before .before .before .before .pre in
-    (pre .2, followed-start _ _ _ _ _ (pre .0) (pre .1) (c .before .before .before .before .before .before .before .clear .ensures) (c .before .before .before .mark .ensures))
+    let t = pre .0 .1 in
+    (told-walkable (t .owner) _ _ (t .rule) (t .told), followed-start _ _ _ _ _ (omega (arith, t .told .modes, t .rule .least)) (pre .1) (pre .2) (c .before .before .before .before .before .before .before .clear .ensures) (c .before .before .before .mark .ensures))
 
 same-length : tie.Need-same-length
 same-length c = search needs

@@ -1,8 +1,6 @@
 -- `add_module` begins the module's part, and goes through the lengths from figures for no tick on. Assumes nothing.
 use native.Mathlib.Omega.{arith}
 use borrow.Author.Needs.{needs}
-use Rattle.sums.proofs.Sums.{told-states}
-use Rattle.marks.proofs.Walk.{told-walkable}
 use Rattle.tiles.proofs.Rows.{longest-same, tile-same}
 use Rattle.tiles.proofs.Steps.{none-length, progress-start}
 use Rattle.tiles.proofs.Cells.{fit-begun, module-begun}
@@ -18,7 +16,7 @@ sub-begin c = search needs
 begin-requires : tie.Need-begin-requires
 begin-requires c κs =
     let p = c .before .before .before .pre in
-    (omega arith, p .0 .memory, told-walkable _ _ _ (p .2 .rule) (p .2 .told), told-states _ _ (p .2))
+    ((_, p .2), omega arith, p .0 .memory)
 
 sub-add-lengths : tie.Need-sub-add-lengths
 sub-add-lengths c = search needs
@@ -37,7 +35,7 @@ add-lengths-requires c κs =
       rw size (tile-same _ _ (λ x h. begun .within .below x (omega arith)) _ _ (begun .within .len) (p .0)),
       rw size (fit-begun _ _ _ _ (begun .within) (p .0 .ends) (p .1)),
       p .2,
-      progress-start _ (p .0 .few) _ _ _ _ _ _ (omega arith) begun,
+      progress-start _ (p .0 .few) _ _ _ _ _ _ (p .0 .memory) (omega arith) begun,
       rw size (longest-same _ _ (λ x h. begun .within .below x (omega arith)) _ _ (omega (arith, p .0 .ends)) (p .3)),
     )
 

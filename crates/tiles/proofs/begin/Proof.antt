@@ -1,5 +1,7 @@
 -- `begin` makes the marks, then clears the layer, which stands before them. Assumes nothing.
+use native.Mathlib.Omega.{arith}
 use borrow.Author.Needs.{needs}
+use Rattle.sums.proofs.Sums.{told-states}
 use Rattle.tiles.proofs.Steps.{begun}
 use Rattle.tiles.proofs.begin.Statement.{statement}
 use Rattle.tiles.proofs.begin.Tie as tie
@@ -29,13 +31,13 @@ states-requires : tie.Need-states-requires
 states-requires c κs = search needs
 
 clear-requires : tie.Need-clear-requires
-clear-requires c κs = search needs
+clear-requires c κs = omega (arith, told-states _ _ (c .before .before .before .before .before .before .before .before .pre .0 .1), c .states .ensures .0)
 
 same-length : tie.Need-same-length
 same-length c = search needs
 
 returns : tie.Need-returns
-returns c = begun _ _ _ _ _ _ (c .before .before .before .before .before .before .before .before .before .before .before .pre .1) (c .before .before .before .states .ensures .0) (c .before .before .before .before .before .before .before .before .mark-entries .ensures) (c .before .before .clear .ensures)
+returns c = begun _ _ _ _ _ _ (c .before .before .before .before .before .before .before .before .before .before .before .pre .2) (c .before .before .before .states .ensures .0) (c .before .before .before .before .before .before .before .before .mark-entries .ensures) (c .before .before .clear .ensures)
 
 pub begin-spec : {M : Type 1} → statement M
 begin-spec =

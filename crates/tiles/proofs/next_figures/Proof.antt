@@ -2,7 +2,7 @@
 use native.Mathlib.Omega.{arith}
 use borrow.Author.Needs.{needs}
 use Rattle.sums.proofs.Sums.{is-layer}
-use Rattle.tiles.proofs.Steps.{next-layer, progressed}
+use Rattle.tiles.proofs.Steps.{growable, progressed}
 use Rattle.tiles.proofs.next_figures.Statement.{statement}
 use Rattle.tiles.proofs.next_figures.Tie as tie
 
@@ -43,8 +43,7 @@ raise-figures-requires : tie.Need-raise-figures-requires
 raise-figures-requires c κs =
     let s = c .before .before .before .before .before .before .before .before .before .before .before in
     let p = s .pre in
-    let layer = next-layer _ _ _ (s .args .work .now) _ (p .1) (c .before .before .before .before .before .before .advance .ensures) (λ m ok told. p .4 m ok told .layer) in
-    (omega arith, omega arith, p .2, omega arith, is-layer _ _ _ _ (p .3) layer)
+    (omega arith, omega arith, p .2, omega arith, growable _ _ _ (s .args .work .now) _ (p .1) (c .before .before .before .before .before .before .advance .ensures) _ _ (p .4) (p .3))
 
 same-length : tie.Need-same-length
 same-length c = search needs
@@ -53,7 +52,7 @@ same-length-2 : tie.Need-same-length-2
 same-length-2 c = search needs
 
 returns : tie.Need-returns
-returns c = let p = c .before .before .before .before .before .before .before .before .before .before .before .before .before .before .pre in progressed _ _ _ _ _ (p .1) (c .before .before .before .before .before .before .before .before .before .advance .ensures) _ _ _ (p .4) (c .before .before .raise-figures .ensures)
+returns c = let p = c .before .before .before .before .before .before .before .before .before .before .before .before .before .before .pre in progressed _ _ _ _ _ (p .1) (c .before .before .before .before .before .before .before .before .before .advance .ensures) _ _ (p .4) _ (c .before .before .raise-figures .ensures)
 
 pub next-figures-spec : {M : Type 1} → statement M
 next-figures-spec =
