@@ -1,5 +1,5 @@
 -- Each result is the only one that meets its contract. Assumes nothing.
-use mathlib.Core.Path.{_≡_, refl, sym, _∙_}
+use mathlib.Core.Path.{_≡_, sym, _∙_}
 use mathlib.Core.List.{List}
 use Prim.Native.Nat.{ℕ, _+_, _-_, _<_}
 use native.Mathlib.Decide.{decLt}
@@ -7,7 +7,7 @@ use native.Mathlib.Omega.{arith}
 use lib.Seq.{ext-getD}
 use Rattle.model.specs.Lists.{when}
 use Rattle.model.specs.Limits.{workNumbers}
-use Rattle.model.specs.Verdict.{Exact, exactFrom}
+use Rattle.model.specs.Verdict.{exactFrom}
 use Rattle.memory.specs.Map.{cellsFrom}
 use Rattle.layers.specs.Step.{look}
 use Rattle.cells.specs.declared.Found.{Found}
@@ -34,14 +34,11 @@ module _ (w : List ℕ) (lo width : ℕ) where
     others = λ L i h some most q. let l : lo + i - (lo + i - L) ≡ L = omega arith in rw (l, q) (omega arith);
   }
 
-apart : {C : Type 0} {a b v : ℕ} → Exact.clear ≡ Exact.over a b v → C
-apart e = let z : _≡_ {A = ℕ} 0 1 = cc in absurd (omega arith)
-
 found-injective : (r r′ : Found) → foundOf r ≡ foundOf r′ → r ≡ r′
-found-injective Clear Clear e = refl
-found-injective Clear (At a b v) e = apart e
-found-injective (At a b v) Clear e = apart (sym e)
-found-injective (At a b v) (At a′ b′ v′) e = let start : a ≡ a′ = cc in let end : b ≡ b′ = cc in let sum : v ≡ v′ = cc in cc
+found-injective Clear Clear e = cc
+found-injective Clear (At a b v) e = cc
+found-injective (At a b v) Clear e = cc
+found-injective (At a b v) (At a′ b′ v′) e = cc
 
 -- first_in_tile
 pub found-unique : (w : List ℕ) (lo width : ℕ) (r r′ : Found) → ((f : ℕ → ℕ → ℕ) → Holding f w lo width → foundOf r ≡ exactFrom f width lo)

@@ -100,11 +100,12 @@ fn exact_given(
             let a = start as usize;
             let b = end as usize;
             witness::write_tapes(sheet, a, b, work, tape, modules, rows);
-            Exact::Over(Interval {
+            let over = Interval {
                 start,
                 end,
                 demand: sum,
-            })
+            };
+            Exact::Over(over)
         }
     }
 }

@@ -2,12 +2,11 @@
 use mathlib.Core.Path.{_≡_, refl, sym, _∙_}
 use mathlib.Core.Bool.{Bool, true, false}
 use mathlib.Core.List.{List}
-use Prim.Native.Nat.{ℕ, _<_}
-use native.Mathlib.Decide.{decLt}
+use Prim.Native.Nat.{ℕ}
 use native.Mathlib.Omega.{arith}
 use lib.Seq.{ext-getD}
 use Rattle.layers.specs.declared.Shape.{Shape}
-use Rattle.layers.specs.Step.{look}
+use Rattle.layers.proofs.Unique.{memory-unique}
 use Rattle.figures.specs.Figures.{Growable, Grown, Figures, Added}
 use Rattle.figures.specs.Offers.{AnyMark}
 use Rattle.figures.proofs.Offered.{not-both}
@@ -29,8 +28,4 @@ grown-unique {s} {numbers} {layer} {bits} {lo} {l} {fig} {u} {v} g h h′ = ext-
 
 -- add_figures
 pub added-unique : {n : ℕ} {fig cells u v : List ℕ} → Added n fig cells u → Added n fig cells v → u ≡ v
-added-unique {n} {fig} {cells} {u} {v} h h′ = ext-getD 0 u v (h .len ∙ sym (h′ .len)) (λ i j. pick i (decLt i n))
-  where
-    pick : (i : ℕ) → Dec (i < n) → look u i ≡ look v i
-    pick i (yes a) = h .each i a ∙ sym (h′ .each i a)
-    pick i (no a) = h .above i (omega arith) ∙ sym (h′ .above i (omega arith))
+added-unique {n} {fig} {cells} {u} {v} h h′ = memory-unique n cells u v (h .len) (h′ .len) (h .above) (h′ .above) (λ i a. h .each i a ∙ sym (h′ .each i a))

@@ -10,6 +10,7 @@ use lib.Dec.{eqb}
 use lib.ListN.{getD}
 use lib.Seq.{ext-getD}
 use borrow.Author.Tests.{eqb-true, eq-eqb}
+use Rattle.memory.specs.Map.{rowNumbers, rowTicks, markNumbers}
 use Rattle.layers.specs.declared.Shape.{Shape}
 use Rattle.layers.specs.Layer.{Tells}
 use Rattle.marks.specs.Marks.{marked}
@@ -39,25 +40,25 @@ Small w = (x : ℕ) → getD w x 0 < 2 ^ 32
 
 module _ {s : Shape} {h : ℕ} {w numbers : List ℕ} (t : Tells s numbers) where
   -- what the one marks the other marks
-  also : {u v : List ℕ} → Entered s h w u → Entered s h w v → (k x : ℕ) → k < 8 → x < 2016 → marked u k x ≡ true → marked v k x ≡ true
+  also : {u v : List ℕ} → Entered s h w u → Entered s h w v → (k x : ℕ) → k < 8 → x < rowTicks → marked u k x ≡ true → marked v k x ≡ true
   also a b k x i j o =
       let (there, within) = a .inside k x i j o in
       b .marks (t .owner) numbers (t .rule) (t .told) .complete k x within (a .marks (t .owner) numbers (t .rule) (t .told) .sound k x (omega (arith, t .told .modes)) within o)
 
   -- mark_entries
   pub entered-unique : {u v : List ℕ} → Small u → Small v → Entered s h w u → Entered s h w v → u ≡ v
-  entered-unique {u} {v} small small′ a b = ext-getD 0 u v (a .len ∙ sym (b .len)) (λ x l. pick x (decLt x 504))
+  entered-unique {u} {v} small small′ a b = ext-getD 0 u v (a .len ∙ sym (b .len)) (λ x l. pick x (decLt x markNumbers))
     where
-      digit : (x i : ℕ) → x < 504 → i < 32 → bit (getD u x 0) i ≡ bit (getD v x 0) i
+      digit : (x i : ℕ) → x < markNumbers → i < 32 → bit (getD u x 0) i ≡ bit (getD v x 0) i
       digit x i h l =
-          let k : ℕ = x / 63 in
-          let e : ℕ = 32 * (x % 63) + i in
-          let number : 63 * (x / 63) + (32 * (x % 63) + i) / 32 ≡ x = omega arith in
-          let place : (32 * (x % 63) + i) % 32 ≡ i = omega arith in
+          let k : ℕ = x / rowNumbers in
+          let e : ℕ = 32 * (x % rowNumbers) + i in
+          let number : rowNumbers * (x / rowNumbers) + (32 * (x % rowNumbers) + i) / 32 ≡ x = omega arith in
+          let place : (32 * (x % rowNumbers) + i) % 32 ≡ i = omega arith in
           rw (number, place) at
-          (bit-same (bit (getD u (63 * k + e / 32) 0) (e % 32)) (bit (getD v (63 * k + e / 32) 0) (e % 32)) (mod-lt _ (omega arith)) (mod-lt _ (omega arith))
+          (bit-same (bit (getD u (rowNumbers * k + e / 32) 0) (e % 32)) (bit (getD v (rowNumbers * k + e / 32) 0) (e % 32)) (mod-lt _ (omega arith)) (mod-lt _ (omega arith))
           (also a b k e (omega arith) (omega arith)) (also b a k e (omega arith) (omega arith)))
 
-      pick : (x : ℕ) → Dec (x < 504) → getD u x 0 ≡ getD v x 0
+      pick : (x : ℕ) → Dec (x < markNumbers) → getD u x 0 ≡ getD v x 0
       pick x (yes i) = bits-same 32 (getD u x 0) (getD v x 0) (small x) (small′ x) (λ j l. digit x j i l)
       pick x (no i) = a .above x (omega arith) ∙ sym (b .above x (omega arith))

@@ -8,9 +8,10 @@ use native.Mathlib.Omega.{arith}
 use lib.ListN.{take, drop, length-take, List·getD-eq-default}
 use lib.Seq.{ext-getD}
 use Rattle.layers.specs.declared.Shape.{Shape}
-use Rattle.layers.specs.Step.{look, Cleared}
+use Rattle.layers.specs.Step.{look}
 use Rattle.layers.specs.Layer.{Tells}
-use Rattle.memory.specs.Map.{layerFrom, cellsFrom, layerPart, marksPart}
+use Rattle.layers.proofs.Unique.{cleared-unique}
+use Rattle.memory.specs.Map.{layerNumbers, markNumbers, layerFrom, marksFrom, cellsFrom, marksPart}
 use Rattle.marks.proofs.Unique.{Small, entered-unique}
 use Rattle.cells.specs.Cells.{rows, cellAt}
 use Rattle.tiles.specs.Tiles.{Within, Begun, ModuleAdded}
@@ -24,27 +25,23 @@ part-at a p u v x low high e =
     rw place at (sym (part-look a p u (x - a) (omega arith)) ∙ e ∙ part-look a p v (x - a) (omega arith))
 
 marks-small : (u : List ℕ) → Small u → Small (marksPart u)
-marks-small u small d = pick (decLt d 504)
+marks-small u small d = pick (decLt d markNumbers)
   where
-    pick : Dec (d < 504) → look (marksPart u) d < 2 ^ 32
-    pick (yes h) = rw (part-look 10193 504 u d h) (small (10193 + d))
-    pick (no h) = rw (List·getD-eq-default (marksPart u) 0 {n = d} (omega (arith, length-take 504 (drop 10193 u)))) (omega arith)
+    pick : Dec (d < markNumbers) → look (marksPart u) d < 2 ^ 32
+    pick (yes h) = rw (part-look marksFrom markNumbers u d h) (small (marksFrom + d))
+    pick (no h) = rw (List·getD-eq-default (marksPart u) 0 {n = d} (omega (arith, length-take markNumbers (drop marksFrom u)))) (omega arith)
 
 -- begin
 pub begun-unique : {s : Shape} {last : ℕ} {w u v numbers : List ℕ} → Tells s numbers → Small u → Small v → Begun s last w u → Begun s last w v → u ≡ v
-begun-unique {s} {last} {w} {u} {v} t small small′ h h′ = ext-getD 0 u v (h .within .len ∙ sym (h′ .within .len)) (λ x l. pick x (decLt x 2001) (decLt x 10193) (decLt x 10697))
+begun-unique {s} {last} {w} {u} {v} t small small′ h h′ = ext-getD 0 u v (h .within .len ∙ sym (h′ .within .len)) (λ x l. pick x (decLt x layerFrom) (decLt x marksFrom) (decLt x cellsFrom))
   where
-    layer : (n d : ℕ) → Dec (d < n) → Cleared n (layerPart w) (layerPart u) → Cleared n (layerPart w) (layerPart v) → look (layerPart u) d ≡ look (layerPart v) d
-    layer n d (yes l) c c′ = c .zeros d l ∙ sym (c′ .zeros d l)
-    layer n d (no l) c c′ = c .above d (omega arith) ∙ sym (c′ .above d (omega arith))
-
     marks : marksPart u ≡ marksPart v
     marks = entered-unique t (marks-small u small) (marks-small v small′) (h .marks) (h′ .marks)
 
-    pick : (x : ℕ) → Dec (x < 2001) → Dec (x < 10193) → Dec (x < 10697) → look u x ≡ look v x
+    pick : (x : ℕ) → Dec (x < layerFrom) → Dec (x < marksFrom) → Dec (x < cellsFrom) → look u x ≡ look v x
     pick x (yes a) b c = h .within .below x a ∙ sym (h′ .within .below x a)
-    pick x (no a) (yes b) c = part-at 2001 8192 u v x (omega arith) b (layer _ (x - 2001) (decLt (x - 2001) _) (h .layer) (h′ .layer))
-    pick x (no a) (no b) (yes c) = part-at 10193 504 u v x (omega arith) c (ap (λ (p : List ℕ). look p (x - 10193)) marks)
+    pick x (no a) (yes b) c = part-at layerFrom layerNumbers u v x (omega arith) b (ap (λ (p : List ℕ). look p (x - layerFrom)) (cleared-unique (h .layer) (h′ .layer)))
+    pick x (no a) (no b) (yes c) = part-at marksFrom markNumbers u v x (omega arith) c (ap (λ (p : List ℕ). look p (x - marksFrom)) marks)
     pick x (no a) (no b) (no c) = h .within .above x (omega arith) ∙ sym (h′ .within .above x (omega arith))
 
 -- add_module
