@@ -36,7 +36,7 @@ impl From<tyvasuri::Refusal> for Answer {
 
 impl From<tyvasuri::Counts> for Answer {
     fn from(counts: tyvasuri::Counts) -> Answer {
-        let tyvasuri::Counts { modules, modes, tasks, switches, horizon } = counts;
+        let tyvasuri::Counts { modules, modes, tasks, switches, horizon, .. } = counts;
         Answer::Counts(Counts { modules, modes, tasks, switches }, horizon)
     }
 }
@@ -51,7 +51,7 @@ impl From<tyvasuri::Quick> for Answer {
     fn from(verdict: tyvasuri::Quick) -> Answer {
         Answer::Quick(match verdict {
             tyvasuri::Quick::Clear => Quick::Clear,
-            tyvasuri::Quick::Over { length, demand } => {
+            tyvasuri::Quick::Over { length, demand, .. } => {
                 Quick::Over { length: length as u64, demand: demand.into() }
             }
         })
@@ -62,7 +62,7 @@ impl From<tyvasuri::Exact<'_>> for Answer {
     fn from(verdict: tyvasuri::Exact<'_>) -> Answer {
         Answer::Exact(match verdict {
             tyvasuri::Exact::Clear => Exact::Clear,
-            tyvasuri::Exact::Over { start, end, demand, tapes } => Exact::Over {
+            tyvasuri::Exact::Over { start, end, demand, tapes, .. } => Exact::Over {
                 a: start as u64,
                 b: end as u64,
                 demand: demand.into(),

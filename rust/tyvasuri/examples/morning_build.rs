@@ -64,7 +64,7 @@ fn lines(judged: &Result<Sheet, Refusal>, memory: &mut Memory) -> String {
 }
 
 fn print_counts(path: &Path, counts: Counts) {
-    let Counts { modules, modes, tasks, switches, horizon } = counts;
+    let Counts { modules, modes, tasks, switches, horizon, .. } = counts;
     println!("{}:", path.display());
     println!("  modules {modules}, modes {modes}, tasks {tasks}, switches {switches}");
     println!("  horizon {horizon}");
@@ -73,7 +73,7 @@ fn print_counts(path: &Path, counts: Counts) {
 fn print_quick(verdict: Quick) {
     match verdict {
         Quick::Clear => println!("quick test: clear"),
-        Quick::Over { length, demand } => {
+        Quick::Over { length, demand, .. } => {
             println!("quick test: over, the modules can demand {demand} in {length} ticks");
         }
     }
@@ -85,7 +85,7 @@ fn print_exact(verdict: Exact, horizon: usize) {
             println!("exact test: clear");
             println!("Every deadline up to tick {horizon} is met, whatever switches are made.");
         }
-        Exact::Over { start, end, demand, tapes } => {
+        Exact::Over { start, end, demand, tapes, .. } => {
             println!(
                 "exact test: over, the modules can demand {demand} from tick {start} to {end}"
             );

@@ -132,7 +132,7 @@ mod tests {
 
     #[test]
     fn every_refusal_is_read_with_its_place() {
-        for fault in Fault::ALL {
+        for &fault in Fault::ALL {
             let answer = u64::from(fault.number()) | 0xAB_CDEF << 8;
             let refusal = Refusal { fault, place: 0xAB_CDEF };
             assert_eq!(counts(answer).err(), Some(refusal));

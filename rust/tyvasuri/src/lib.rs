@@ -28,7 +28,7 @@
 //! let mut memory = Memory::new();
 //! match sheet.exact_test_in(&mut memory) {
 //!     Exact::Clear => println!("clear up to tick {}", sheet.horizon()),
-//!     Exact::Over { start, end, demand, tapes } => {
+//!     Exact::Over { start, end, demand, tapes, .. } => {
 //!         println!("from tick {start} to tick {end} {demand} ticks of work are due");
 //!         for (module, tape) in tapes.into_iter().enumerate() {
 //!             println!("module {module} is then in the modes {tape:?}");

@@ -4,6 +4,7 @@ use std::error::Error;
 use std::fmt;
 
 /// What a call is refused for: one case for each refusal number of document 01.
+/// More numbers may come, so that a `match` has an arm for the others.
 ///
 /// ```
 /// use tyvasuri::Fault;
@@ -14,6 +15,7 @@ use std::fmt;
 /// ```
 #[derive(Clone, Copy, Debug, PartialEq, Eq, PartialOrd, Ord, Hash)]
 #[repr(u8)]
+#[non_exhaustive]
 pub enum Fault {
     /// 1: the sheet ends where a mark or a field is wanted.
     CutShort = 1,
@@ -46,7 +48,7 @@ impl Fault {
     ///
     /// assert!(Fault::ALL.iter().map(|fault| fault.number()).eq(1..=10));
     /// ```
-    pub const ALL: [Fault; 10] = [
+    pub const ALL: &'static [Fault] = &[
         Fault::CutShort,
         Fault::UnknownMark,
         Fault::OutOfOrder,
@@ -77,7 +79,7 @@ impl Fault {
     /// assert_eq!(Fault::from_number(11), None);
     /// ```
     pub fn from_number(number: u8) -> Option<Fault> {
-        Fault::ALL.into_iter().find(|fault| fault.number() == number)
+        Fault::ALL.iter().copied().find(|fault| fault.number() == number)
     }
 }
 
@@ -108,13 +110,14 @@ impl fmt::Display for Fault {
 /// use tyvasuri::{judge, Fault, Refusal};
 ///
 /// let refusal = judge(b"HZ\x01\0ML\x01\0MD\x01\0EN\x04\0").unwrap_err();
-/// assert_eq!(refusal, Refusal { fault: Fault::BadEnd, place: 12 });
+/// assert_eq!(refusal, Refusal::new(Fault::BadEnd, 12));
 /// assert_eq!(
 ///     refusal.to_string(),
 ///     "refusal 7: EN's number is not that of the records before it, in the record at byte 12"
 /// );
 /// ```
 #[derive(Clone, Copy, Debug, PartialEq, Eq, Hash)]
+#[non_exhaustive]
 pub struct Refusal {
     /// What is wrong.
     pub fault: Fault,
@@ -124,6 +127,17 @@ pub struct Refusal {
 }
 
 impl Refusal {
+    /// The refusal for a fault at a place.
+    ///
+    /// ```
+    /// use tyvasuri::{judge, Fault, Refusal};
+    ///
+    /// assert_eq!(judge(b"HZ"), Err(Refusal::new(Fault::CutShort, 0)));
+    /// ```
+    pub const fn new(fault: Fault, place: usize) -> Refusal {
+        Refusal { fault, place }
+    }
+
     /// The refusal number of document 01.
     ///
     /// ```

@@ -5,13 +5,15 @@ use crate::{query, Exact, Memory, Quick, Refusal};
 /// The counts of an accepted sheet, and its horizon.
 ///
 /// ```
-/// use tyvasuri::{judge, Counts};
+/// use tyvasuri::judge;
 ///
 /// let counts = judge(include_bytes!("../../../examples/a_two_modules.sheet"))?;
-/// assert_eq!(counts, Counts { modules: 2, modes: 3, tasks: 3, switches: 1, horizon: 8 });
+/// assert_eq!((counts.modules, counts.modes, counts.tasks, counts.switches), (2, 3, 3, 1));
+/// assert_eq!(counts.horizon, 8);
 /// # Ok::<(), tyvasuri::Refusal>(())
 /// ```
 #[derive(Clone, Copy, Debug, PartialEq, Eq, Hash)]
+#[non_exhaustive]
 pub struct Counts {
     /// The number of modules, 1 to 8.
     pub modules: usize,
@@ -36,7 +38,7 @@ pub struct Counts {
 ///
 /// let sheet = Sheet::judge(include_bytes!("../../../examples/a_two_modules.sheet"))?;
 /// let mut memory = Memory::new();
-/// assert_eq!(sheet.quick_test_in(&mut memory), Quick::Over { length: 3, demand: 4 });
+/// assert!(matches!(sheet.quick_test_in(&mut memory), Quick::Over { length: 3, demand: 4, .. }));
 /// assert!(!sheet.exact_test_in(&mut memory).is_clear());
 /// # Ok::<(), tyvasuri::Refusal>(())
 /// ```
@@ -293,7 +295,7 @@ impl<'s> Sheet<'s> {
     ///
     /// let sheet = Sheet::judge(include_bytes!("../../../examples/g_alternating_over.sheet"))?;
     /// let verdict = sheet.quick_test(&mut [0; Sheet::WORK_LEN])?;
-    /// assert_eq!(verdict, Quick::Over { length: 8, demand: 13 });
+    /// assert!(matches!(verdict, Quick::Over { length: 8, demand: 13, .. }));
     /// # Ok::<(), tyvasuri::Refusal>(())
     /// ```
     ///

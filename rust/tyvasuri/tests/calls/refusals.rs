@@ -7,11 +7,6 @@ use tyvasuri::{
     Refusal, Sheet,
 };
 
-/// A refusal with a place.
-fn at(fault: Fault, place: usize) -> Refusal {
-    Refusal { fault, place }
-}
-
 /// Checks that the judge refuses the sheet so, and that the calls do.
 fn check_refused(bytes: &[u8], refusal: Refusal) {
     let refused = Some(refusal);
@@ -27,14 +22,14 @@ fn check_refused(bytes: &[u8], refusal: Refusal) {
 /// A sheet's fault goes before ranges and memory, which every call here breaks.
 #[test]
 fn sheet_faults_go_first() {
-    check_refused(&sheet_a()[..63], at(Fault::CutShort, 60));
-    check_refused(&sheet("HZ 1 XY 1 MD 1 EN 3"), at(Fault::UnknownMark, 4));
-    check_refused(&sheet("HZ 1 MD 1 EN 2"), at(Fault::OutOfOrder, 4));
-    check_refused(&nine_modules(), at(Fault::PastCount, 68));
-    check_refused(&sheet("HZ 2001 ML 1 MD 1 EN 3"), at(Fault::BadField, 0));
-    check_refused(&sheet("HZ 1 ML 1 MD 1 SW 0 1 EN 4"), at(Fault::BadSwitch, 12));
-    check_refused(&sheet("HZ 1 ML 1 MD 1 EN 2"), at(Fault::BadEnd, 12));
-    check_refused(&sheet("HZ 1 ML 1 MD 1 EN 3 EN 3"), at(Fault::BytesAfter, 16));
+    check_refused(&sheet_a()[..63], Refusal::new(Fault::CutShort, 60));
+    check_refused(&sheet("HZ 1 XY 1 MD 1 EN 3"), Refusal::new(Fault::UnknownMark, 4));
+    check_refused(&sheet("HZ 1 MD 1 EN 2"), Refusal::new(Fault::OutOfOrder, 4));
+    check_refused(&nine_modules(), Refusal::new(Fault::PastCount, 68));
+    check_refused(&sheet("HZ 2001 ML 1 MD 1 EN 3"), Refusal::new(Fault::BadField, 0));
+    check_refused(&sheet("HZ 1 ML 1 MD 1 SW 0 1 EN 4"), Refusal::new(Fault::BadSwitch, 12));
+    check_refused(&sheet("HZ 1 ML 1 MD 1 EN 2"), Refusal::new(Fault::BadEnd, 12));
+    check_refused(&sheet("HZ 1 ML 1 MD 1 EN 3 EN 3"), Refusal::new(Fault::BytesAfter, 16));
 }
 
 /// A sheet with a ninth module, which begins at byte 68.
@@ -45,7 +40,7 @@ fn nine_modules() -> Vec<u8> {
 #[test]
 fn ranges_go_before_memory() {
     let bytes = sheet_a();
-    let out_of_range = Err(at(Fault::OutOfRange, 0));
+    let out_of_range = Err(Refusal::new(Fault::OutOfRange, 0));
     for module in [2, 1 << 8, 1 << 32, usize::MAX] {
         assert_eq!(mode_demand(&bytes, module, 0, 0, 0), out_of_range);
         assert_eq!(state_demand(&bytes, module, 0, 0, 0, &mut []), out_of_range);
@@ -75,14 +70,14 @@ fn range_ends_are_in_range() {
 
 #[test]
 fn messages_say_what_and_where() {
-    let message = |fault, place| at(fault, place).to_string();
+    let message = |fault, place| Refusal::new(fault, place).to_string();
     assert_eq!(
         message(Fault::CutShort, 60),
         "refusal 1: the sheet ends where a mark or a field is wanted, in the record at byte 60"
     );
     assert_eq!(message(Fault::BytesAfter, 16), "refusal 8: bytes stand after EN, from byte 16 on");
     assert_eq!(message(Fault::MemoryTooShort, 0), "refusal 10: the lent memory is too short");
-    for fault in Fault::ALL {
+    for &fault in Fault::ALL {
         assert!(message(fault, 7).contains(&fault.to_string()));
     }
 }

@@ -8,15 +8,27 @@ const PRINTED_A: &str = "48 5A 08 00 4D 4C 01 00 4D 44 04 00 54 4B 00 00 02 00 0
     00 4D 44 04 00 54 4B 00 00 01 00 04 00 04 00 53 57 01 00 04 00 4D 44 04 00 54 4B 01 00 02 00 02 \
     00 04 00 45 4E 0A 00";
 
-/// Checks both tests: the quick verdict, and the exact one as start, end, demand
-/// and tapes, none for clear.
-fn check_verdicts(bytes: &[u8], quick: Quick, over: Option<(usize, usize, u32, &[&[u8]])>) {
+/// The length and the sum of a quick verdict, none for clear.
+fn first_over(verdict: Quick) -> Option<(usize, u32)> {
+    match verdict {
+        Quick::Clear => None,
+        Quick::Over { length, demand, .. } => Some((length, demand)),
+    }
+}
+
+/// Checks both tests: the quick verdict as length and sum, and the exact one as
+/// start, end, demand and tapes, none for clear.
+fn check_verdicts(
+    bytes: &[u8],
+    quick: Option<(usize, u32)>,
+    over: Option<(usize, usize, u32, &[&[u8]])>,
+) {
     let sheet = Sheet::judge(bytes).unwrap();
     let mut memory = Memory::new();
-    assert_eq!(sheet.quick_test_in(&mut memory), quick);
+    assert_eq!(first_over(sheet.quick_test_in(&mut memory)), quick);
     let found = match sheet.exact_test_in(&mut memory) {
         Exact::Clear => None,
-        Exact::Over { start, end, demand, tapes } => {
+        Exact::Over { start, end, demand, tapes, .. } => {
             Some((start, end, demand, tapes.iter().collect::<Vec<_>>()))
         }
     };
@@ -43,16 +55,16 @@ fn case_a_as_printed() {
 fn case_a() {
     let bytes = sheet_a();
     let sheet = Sheet::judge(&bytes).unwrap();
-    let counts = Counts { modules: 2, modes: 3, tasks: 3, switches: 1, horizon: 8 };
-    assert_eq!(sheet.counts(), counts);
+    let Counts { modules, modes, tasks, switches, horizon, .. } = sheet.counts();
+    assert_eq!([modules, modes, tasks, switches, horizon], [2, 3, 3, 1, 8]);
     assert_eq!((sheet.horizon(), sheet.tape_len()), (8, 16));
     let tapes: [&[u8]; 2] = [&[0, 0, 0, 0, 0, 0, 0], &[0, 0, 0, 0, 1, 1, 1]];
-    check_verdicts(&bytes, Quick::Over { length: 3, demand: 4 }, Some((4, 7, 4, &tapes)));
+    check_verdicts(&bytes, Some((3, 4)), Some((4, 7, 4, &tapes)));
 }
 
 #[test]
 fn case_b() {
-    check_verdicts(&sheet_b(), Quick::Over { length: 3, demand: 4 }, None);
+    check_verdicts(&sheet_b(), Some((3, 4)), None);
 }
 
 #[test]
@@ -81,30 +93,30 @@ fn case_e() {
 
 #[test]
 fn case_f() {
-    check_verdicts(&sheet_f(), Quick::Over { length: 8, demand: 10 }, None);
+    check_verdicts(&sheet_f(), Some((8, 10)), None);
 }
 
 #[test]
 fn case_g() {
     let tapes: [&[u8]; 2] = [&[0, 0, 0, 0, 1, 1, 1, 1], &[0; 8]];
-    check_verdicts(&sheet_g(), Quick::Over { length: 8, demand: 13 }, Some((0, 8, 10, &tapes)));
+    check_verdicts(&sheet_g(), Some((8, 13)), Some((0, 8, 10, &tapes)));
 }
 
 #[test]
 fn case_h() {
     let bytes = sheet_h();
     assert_eq!(bytes.len(), 16);
-    check_verdicts(&bytes, Quick::Clear, None);
+    check_verdicts(&bytes, None, None);
 }
 
 #[test]
 fn case_h_damaged() {
     let refused = |bytes: &[u8]| Sheet::judge(bytes).unwrap_err();
     let wrong_number = sheet("HZ 1 ML 1 MD 1 EN 4");
-    assert_eq!(refused(&wrong_number), Refusal { fault: Fault::BadEnd, place: 12 });
+    assert_eq!(refused(&wrong_number), Refusal::new(Fault::BadEnd, 12));
     let one_more = [&sheet_h()[..], &[0]].concat();
-    assert_eq!(refused(&one_more), Refusal { fault: Fault::BytesAfter, place: 16 });
-    assert_eq!(refused(&[]), Refusal { fault: Fault::CutShort, place: 0 });
+    assert_eq!(refused(&one_more), Refusal::new(Fault::BytesAfter, 16));
+    assert_eq!(refused(&[]), Refusal::new(Fault::CutShort, 0));
 }
 
 /// The system of the source's Table 1.
@@ -121,7 +133,7 @@ fn case_i_at_any_horizon() {
              EN 18"
         ));
         let verdict = Sheet::judge(&bytes).unwrap().quick_test_in(&mut Memory::new());
-        assert_eq!(verdict, Quick::Over { length: 1, demand: 2 });
+        assert_eq!(first_over(verdict), Some((1, 2)));
     }
 }
 
