@@ -34,7 +34,8 @@ module _ (w : List ℕ) (lo width : ℕ) where
     others = λ L i h some most q. let l : lo + i - (lo + i - L) ≡ L = omega arith in rw (l, q) (omega arith);
   }
 
-found-injective : (r r′ : Found) → foundOf r ≡ foundOf r′ → r ≡ r′
+-- what a search says that has found something, or nothing
+pub found-injective : (r r′ : Found) → foundOf r ≡ foundOf r′ → r ≡ r′
 found-injective Clear Clear e = cc
 found-injective Clear (At a b v) e = cc
 found-injective (At a b v) Clear e = cc

@@ -2,6 +2,9 @@
 use mathlib.Core.Path.{_≡_, sym, _∙_}
 use Prim.Native.Nat.{ℕ}
 use Rattle.model.specs.Sheet.{Sheet}
+use Rattle.format.specs.Record.{Record, tk}
+use Rattle.place.specs.declared.Task.{Task as Numbers}
+use Rattle.place.specs.Numbers.{taskOf}
 use Rattle.place.specs.There.{ModuleThere, ModesThere, ModeThere, SomeModule, SomeModes, SomeMode}
 
 -- tasks_at, switches_from, switches_at, after_mode
@@ -15,3 +18,9 @@ module-figure-unique s p f some r r′ e e′ = e (some .k) (some .there) ∙ sy
 -- mode_from
 pub modes-figure-unique : (s : Sheet) (p j : ℕ) (f : ℕ → ℕ) → SomeModes s p j → (r r′ : ℕ) → ((k : ℕ) → ModesThere s k p j → r ≡ f k) → ((k : ℕ) → ModesThere s k p j → r′ ≡ f k) → r ≡ r′
 modes-figure-unique s p j f some r r′ e e′ = e (some .k) (some .there) ∙ sym (e′ (some .k) (some .there))
+
+-- task_at
+pub task-unique : (r : Record) (x y : Numbers) → tk (taskOf x) ≡ r → tk (taskOf y) ≡ r → x ≡ y
+task-unique r x y e e′ =
+    let same : taskOf x ≡ taskOf y = cc in
+    λ i. record { offset = same i .offset; cost = same i .cost; due = same i .LET; period = same i .period }

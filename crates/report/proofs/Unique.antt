@@ -18,7 +18,7 @@ use Rattle.report.specs.declared.Report.{Report}
 use Rattle.report.specs.declared.Report.the-variants.{Refused, Written}
 use Rattle.report.specs.Report.{reportTerms, answerOf, Lines, outUsed, TapeLeft, Reported}
 
-answer-injective : (r q : Report) → answerOf r ≡ answerOf q → r ≡ q
+pub answer-injective : (r q : Report) → answerOf r ≡ answerOf q → r ≡ q
 answer-injective (Refused n p) (Refused m o) e = cc
 answer-injective (Refused n p) (Written k) e = cc
 answer-injective (Written k) (Refused m o) e = cc

@@ -1,7 +1,6 @@
--- A report that is written stays as it is; where it is refused, the line of the refusal is written. Assumes nothing.
-use native.Mathlib.Omega.{arith}
+-- A report that is written stays as it is; where it is refused, that is said, or its line is written. Assumes nothing.
+use Rattle.printing.proofs.Lines.{printed-counted, written-printed, refused-printed}
 use borrow.Author.Needs.{needs}
-use Rattle.printing.proofs.Lines.{refused-room, put-counted, refused-printed, written-printed}
 use Rattle.printing.proofs.put_lines.Statement.{statement}
 use Rattle.printing.proofs.put_lines.Tie as tie
 
@@ -11,8 +10,8 @@ write-report-requires c κs = search needs
 enum-known-answer : tie.Need-enum-known-answer
 enum-known-answer c = search needs
 
-refused-line-requires : tie.Need-refused-line-requires
-refused-line-requires c κs = refused-room (omega arith) (omega arith) (omega arith)
+put-refusal-requires : tie.Need-put-refusal-requires
+put-refusal-requires c κs = search needs
 
 enum-known-answer-2 : tie.Need-enum-known-answer-2
 enum-known-answer-2 c = search needs
@@ -28,10 +27,9 @@ same-length-3 c = search needs
 
 returns : tie.Need-returns
 returns c =
-    let p = c .before .before .before .before .before .before .before .before .before .before .before .before .before .before .before .before .before .before .before .before .before .pre in
     let reported = rw (c .before .before .before .before .before .answer .given .1) at (c .before .before .before .before .before .before .before .before .before .before .before .before .before .write-report .ensures) in
-    let put = c .before .before .refused-line .ensures in
-    (refused-printed _ _ _ _ _ _ _ (p .0) (p .1) (p .2) reported put, put-counted put)
+    let printed = refused-printed _ _ _ _ _ _ _ reported (c .before .before .put-refusal .ensures) in
+    (printed, printed-counted printed)
 
 same-length-4 : tie.Need-same-length-4
 same-length-4 c = search needs
@@ -45,8 +43,8 @@ same-length-6 c = search needs
 returns-2 : tie.Need-returns-2
 returns-2 c =
     let reported = rw (c .before .answer2 .given .1) at (c .before .before .before .before .before .before .before .before .before .write-report .ensures) in
-    let printed = written-printed _ _ _ _ _ _ _ reported in
-    (printed, put-counted (printed .written))
+    let printed = written-printed _ _ _ _ _ _ reported in
+    (printed, printed-counted printed)
 
 pub put-lines-spec : {M : Type 1} → statement M
 put-lines-spec =
@@ -54,7 +52,7 @@ put-lines-spec =
     (tie.spec
     write-report-requires
     enum-known-answer
-    refused-line-requires
+    put-refusal-requires
     enum-known-answer-2
     same-length
     same-length-2
