@@ -4,6 +4,7 @@ use mathlib.Core.List.{List, [], _∷_}
 use Prim.Native.Nat.{ℕ, zero, suc, _-_, _≤_, _<_, zero-le}
 use native.Mathlib.Nat.{le-of-suc-le-suc}
 use native.Mathlib.Omega.{arith}
+use lib.ListN.{getD}
 use Rattle.model.specs.Lists.{All, Nth, Pairwise, SumIs}
 use Rattle.model.specs.Sheet.{Module}
 use Rattle.model.specs.WellFormed.{ModuleRule}
@@ -38,10 +39,13 @@ demands-most a b (m ∷ ms) v r ρs runs =
 
 -- A tape fixes the states of its run.
 
+pub tape-at : (ρ : Run) (b t : ℕ) → t < b → getD (tapeOf ρ b) t 0 ≡ ρ t .mode
+tape-at ρ zero t l = absurd (omega arith)
+tape-at ρ (suc b) zero l = refl
+tape-at ρ (suc b) (suc t) l = tape-at (later ρ) b t (le-of-suc-le-suc l)
+
 tape-modes : (b t : ℕ) (ρ ρ′ : Run) → tapeOf ρ b ≡ tapeOf ρ′ b → t < b → ρ t .mode ≡ ρ′ t .mode
-tape-modes zero t ρ ρ′ e l = absurd (omega arith)
-tape-modes (suc b) zero ρ ρ′ e l = cc
-tape-modes (suc b) (suc t) ρ ρ′ e l = tape-modes b t (later ρ) (later ρ′) (cc) (le-of-suc-le-suc l)
+tape-modes b t ρ ρ′ e l = sym (tape-at ρ b t l) ∙ ap (λ (tape : List ℕ). getD tape t 0) e ∙ tape-at ρ′ b t l
 
 module _ (m : Module) (ok : ModuleRule m) (s : State) (ρ ρ′ : Run) (is : IsRun m s ρ) (is′ : IsRun m s ρ′) where
   same-states : (t : ℕ) → ((u : ℕ) → u ≤ t → ρ u .mode ≡ ρ′ u .mode) → ρ t ≡ ρ′ t

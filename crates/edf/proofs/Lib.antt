@@ -9,3 +9,4 @@ pub mod Building
 pub mod Verdicts
 pub mod Meaning
 pub mod Stays
+pub mod Described

@@ -1,3 +1,4 @@
+pub mod Exactly
 pub mod Tied
 pub mod Promise
 pub mod ShutOut

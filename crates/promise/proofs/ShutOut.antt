@@ -16,27 +16,16 @@ use Rattle.model.specs.WellFormed.{WellFormed}
 use Rattle.model.specs.Run.{State, gainOf, gain}
 use Rattle.model.specs.Demand.{nexts, value}
 use Rattle.model.specs.Verdict.{Exact, ExactSum, ExactIs, exactSum, exact}
-use Rattle.model.specs.Tape.{tapes}
 use Rattle.model.proofs.Verdicts.{exact-is, exact-sum-only}
-use Rattle.model.proofs.Tapes.{tapes-are}
 use Rattle.format.specs.Record.{markCoded}
 use Rattle.format.specs.Rules.{ordered, counted, taskRuled, switchRuled, ruled}
 use Rattle.format.specs.Judgement.{gather, tested, judgeFrom, judgement, sheetIn, Accepted}
 use Rattle.format.proofs.RoundTrip.{accepted-wellFormed}
 use Rattle.query.specs.Memory.{tapesIn}
 use Rattle.cases.specs.Sheets.{sheetA}
-use Rattle.edf.specs.Work.{fullCost}
-use Rattle.edf.proofs.Meaning.{order-exists, over-late, over-shown}
+use Rattle.edf.proofs.Meaning.{not-both}
 use Rattle.promise.specs.Promise.{ClearPromise, OverPromise}
-
--- An over excludes the promise of clear: an earliest-deadline-first order of the shown runs, at full cost, would end all on time.
-over-not-clear : (s : Sheet) → WellFormed s → (a b v : ℕ) → ExactIs s (Exact.over a b v) → ClearPromise s → ⊥
-over-not-clear s ok a b v is promise =
-    let are = tapes-are s ok a b in
-    let r = over-shown s a b (tapes s a b) are in
-    let o = order-exists s (r .0) fullCost in
-    over-late s ok a b v is (tapes s a b) are (r .0) (r .1) (r .2) (o .0) (o .1 .order)
-    (λ x i due. promise (r .0) (r .1) fullCost (λ y j. omega arith) (o .0) (o .1) x i (omega (arith, is .1)))
+use Rattle.promise.proofs.Exactly.{clear-exactly}
 
 -- Sheet A, by computation: it is accepted, and over from 4 to 7 with 4; no interval from tick 0 is over.
 
@@ -80,7 +69,7 @@ from-0-A : (b : ℕ) → b ≤ 8 → exactSum A 0 b ≤ b
 from-0-A b h = leb-true (exactSum A 0 b) b (at-most (λ n. leb (exactSum A 0 n) n) 8 b h from-0-computed)
 
 not-clear-A : ClearPromise A → ⊥
-not-clear-A = over-not-clear A wellFormed-A 4 7 4 (subst (ExactIs A) exact-A (exact-is A wellFormed-A))
+not-clear-A promise = not-both A (clear-exactly A wellFormed-A .0 promise) 4 7 4 (subst (ExactIs A) exact-A (exact-is A wellFormed-A))
 
 -- The three versions.
 

@@ -1,2 +1,4 @@
 pub mod Answers
 pub mod Meeting
+pub mod Ranges
+pub mod Lent

@@ -1,5 +1,5 @@
--- A call whose terms are met is given its figure, and one that is refused is answered so; a sheet's fault goes before 9, and 9 before 10. And laws of memory of
--- which only the first numbers may differ. Assumes nothing.
+-- A call is given its figure exactly where its terms are met, and one that is refused is answered so; a sheet's fault goes before 9, and 9 before 10. And laws of
+-- memory of which only the first numbers may differ. Assumes nothing.
 use mathlib.Core.Path.{_≡_, refl, sym, _∙_, ap}
 use mathlib.Core.Bool.{Bool, true, false, cond}
 use mathlib.Core.List.{List}
@@ -16,6 +16,25 @@ module _ {A : Type 0} (t : Terms) (bytes : List ℕ) where
   pub met-given : Meets t bytes → (f : Sheet → A) → answer t f bytes ≡ given (f (sheetIn bytes))
   unfolding answer
   met-given met f = ap (answerOf t f) (met .accepted) ∙ rw (met .in-range, met .enough)
+
+  -- and one that is given a figure has met them
+  pub given-met : (f : Sheet → A) (v : A) → answer t f bytes ≡ given v → Meets t bytes
+  unfolding answer
+  given-met f v says = judged (judgement bytes) refl says
+    where
+      apart : {n p : ℕ} → refused n p ≡ given v → Meets t bytes
+      apart q = let z : _≡_ {A = ℕ} 0 1 = cc in absurd (omega arith)
+
+      tests : (s : Sheet) → judgement bytes ≡ Judgement.accepted s → (i e : Bool) → t .inRange s ≡ i → t .enough s ≡ e
+          → cond i (cond e (given (f s)) (refused 10 0)) (refused 9 0) ≡ given v → Meets t bytes
+      tests s j true true g h q = record { accepted = rw j; in-range = rw j g; enough = rw j h }
+      tests s j true false g h q = apart q
+      tests s j false true g h q = apart q
+      tests s j false false g h q = apart q
+
+      judged : (j : Judgement) → judgement bytes ≡ j → answerOf t f j ≡ given v → Meets t bytes
+      judged (Judgement.refused n p) e q = apart q
+      judged (Judgement.accepted s) e q = tests s e (t .inRange s) (t .enough s) refl refl q
 
   pub fault-refused : {number place : ℕ} → judgement bytes ≡ Judgement.refused number place → RefusedWith A t bytes number place
   unfolding answer
