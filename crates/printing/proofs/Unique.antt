@@ -11,7 +11,7 @@ use Rattle.lines.specs.Lines.{lines}
 use Rattle.writing.proofs.Writing.{put-unique}
 use Rattle.report.specs.declared.Report.{Report}
 use Rattle.report.specs.Report.{answerOf}
-use Rattle.report.proofs.Unique.{answer-injective, report-unique}
+use Rattle.report.proofs.Unique.{answer-injective, Agree as Reports, report-unique}
 use Rattle.printing.specs.Printed.{OutLeft, Printed}
 
 pub record Agree (r q : Report) (u v p p′ o o′ : List ℕ) : Type 0 where
@@ -30,6 +30,8 @@ printed-unique {bytes} {w} {u} {v} {t} {p} {p′} {o} {x} {y} {r} {q} g h = reco
   where
     same : r ≡ q
     same = answer-injective r q (g .answer ∙ sym (h .answer))
+
+    reports : Reports (g .report) (h .report) u v p p′ (g .between) (h .between)
     reports = report-unique (g .reported) (h .reported)
 
     used : (a : Answer ℕ) → Stays (workUsed a) u v → Stays workNumbers u v
