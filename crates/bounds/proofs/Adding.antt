@@ -6,6 +6,7 @@ use native.Mathlib.Decide.{decLe}
 use native.Mathlib.Omega.{arith}
 use lib.ListN.{length, set, length-set}
 use lib.Seq.{getD-set-same, getD-set-other}
+use Rattle.model.specs.Limits.{workNumbers}
 use Rattle.model.specs.Sheet.{Module, Sheet, moduleAt}
 use Rattle.model.specs.WellFormed.{ModuleRule}
 use Rattle.layers.specs.declared.Shape.{Shape}
@@ -19,7 +20,7 @@ use Rattle.bounds.proofs.Bounding.{progress-kept}
 
 -- One length.
 
-module _ (s : Shape) (numbers : List ℕ) (lo width n r : ℕ) (w w₁ : List ℕ) (short : n < 2000) (room : 16384 ≤ length w)
+module _ (s : Shape) (numbers : List ℕ) (lo width n r : ℕ) (w w₁ : List ℕ) (short : n < 2000) (room : workNumbers ≤ length w)
     (on : Progressed s numbers lo width (n + 1) r w w₁) where
   -- the number is not too large
   pub next-fits : Tells s numbers → look w (n + 1) ≤ 7 * 32000 → look w₁ (n + 1) + r < 2 ^ 32

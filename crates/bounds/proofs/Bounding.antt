@@ -8,6 +8,7 @@ use native.Mathlib.Decide.{decLe}
 use native.Mathlib.Omega.{arith}
 use lib.ListN.{length}
 use borrow.Rule.Slice.PartMut.{putMid}
+use Rattle.model.specs.Limits.{workNumbers}
 use Rattle.model.specs.Sheet.{Module}
 use Rattle.model.specs.WellFormed.{ModuleRule}
 use Rattle.model.specs.Run.{first}
@@ -15,7 +16,7 @@ use Rattle.model.specs.Demand.{value}
 use Rattle.model.proofs.Bounds.{value-bound}
 use Rattle.layers.specs.declared.Shape.{Shape}
 use Rattle.layers.specs.Layer.{Layer, Told, Each, Advanced}
-use Rattle.memory.specs.Map.{layerPart, marksPart}
+use Rattle.memory.specs.Map.{layerNumbers, markNumbers, layerFrom, marksFrom, layerPart, marksPart}
 use Rattle.entries.proofs.Reaches.{reach-listed}
 use Rattle.entries.proofs.Figures.{figure-end, figure-step}
 use Rattle.marks.specs.Marks.{Marks}
@@ -57,7 +58,7 @@ module _ (m : Module) (ok : ModuleRule m) (s : Shape) (numbers : List ℕ) (told
 
 -- What a module has come to: with no tick, with one tick more, and where only numbers before the layer have changed.
 
-pub progress-start : (s : Shape) (numbers : List ℕ) (lo width last : ℕ) (w w′ : List ℕ) → 16384 ≤ length w → last ≡ pred (lo + width) → Begun s last w w′ → Each s numbers (λ m. Progress m lo width 0 w′ 0)
+pub progress-start : (s : Shape) (numbers : List ℕ) (lo width last : ℕ) (w w′ : List ℕ) → workNumbers ≤ length w → last ≡ pred (lo + width) → Begun s last w w′ → Each s numbers (λ m. Progress m lo width 0 w′ 0)
 progress-start s numbers lo width last w w′ room e start m ok told = record {
   layer = begun-layer numbers room start m ok told;
   marks = rw (sym e) (start .marks .marks m numbers ok told);
@@ -65,9 +66,9 @@ progress-start s numbers lo width last w w′ room e start m ok told = record {
   low = omega arith;
 }
 
-module _ (s : Shape) (numbers : List ℕ) (n : ℕ) (w ys : List ℕ) (room : 16384 ≤ length w) (advanced : Advanced s numbers n (layerPart w) ys) where
+module _ (s : Shape) (numbers : List ℕ) (n : ℕ) (w ys : List ℕ) (room : workNumbers ≤ length w) (advanced : Advanced s numbers n (layerPart w) ys) where
   abbrev w′ : List ℕ
-  w′ = putMid 2001 8192 w ys
+  w′ = putMid layerFrom layerNumbers w ys
 
   pub progressed : (lo width g r : ℕ) → Each s numbers (λ m. Progress m lo width n w g)
       → Topped (Below (ShapeOffer s numbers (layerPart w′) (marksPart w′) lo (n + 1)) (s .modes)) width g r → Progressed s numbers lo width (n + 1) r w w′
@@ -87,8 +88,8 @@ module _ (s : Shape) (numbers : List ℕ) (n : ℕ) (w ys : List ℕ) (room : 16
 
 pub progress-kept : {m : Module} {lo width n a e best : ℕ} {w w′ : List ℕ} → e ≤ 2001 → Within a e w w′ → Progress m lo width n w best → Progress m lo width n w′ best
 progress-kept {m} {lo} {width} {n} {a} {e} {best} {w} {w′} h rest before = record {
-  layer = subst (Layer m n) (sym (part-behind rest 2001 8192 (omega arith))) (before .layer);
-  marks = subst (Marks m (pred (lo + width))) (sym (part-behind rest 10193 504 (omega arith))) (before .marks);
+  layer = subst (Layer m n) (sym (part-behind rest layerFrom layerNumbers (omega arith))) (before .layer);
+  marks = subst (Marks m (pred (lo + width))) (sym (part-behind rest marksFrom markNumbers (omega arith))) (before .marks);
   bound = before .bound;
   low = before .low;
 }

@@ -6,7 +6,7 @@ use native.Mathlib.Omega.{arith}
 use lib.ListN.{length, take}
 use lib.Seq.{take-length}
 use Rattle.model.specs.Lists.{sumOf}
-use Rattle.model.specs.Sheet.{Module, Sheet}
+use Rattle.model.specs.Sheet.{Module, Sheet, absent}
 use Rattle.model.specs.Limits.{workNumbers}
 use Rattle.model.specs.WellFormed.{WellFormed}
 use Rattle.model.specs.Run.{first}
@@ -14,8 +14,7 @@ use Rattle.model.specs.Demand.{value}
 use Rattle.model.specs.Verdict.{exactSum}
 use Rattle.layers.specs.Step.{look, Cleared}
 use Rattle.sums.specs.Sums.{Fits}
-use Rattle.quick.proofs.Sums.{absent}
-use Rattle.quick.proofs.Summing.{sum-more}
+use Rattle.model.proofs.Summing.{sum-more}
 use Rattle.bounds.specs.Bounds.{ModuleAdded, SumsBounded}
 
 -- no sum over the first k modules exceeds the number at its length, which is at most 32,000 for each of them

@@ -4,7 +4,7 @@ use mathlib.Core.List.{List}
 use Prim.Native.Nat.{ℕ, pred, _+_, _-_, _*_, _≤_, _<_}
 use lib.ListN.{length}
 use Rattle.model.specs.Sheet.{Module, Sheet, moduleAt}
-use Rattle.model.specs.Limits.{workNumbers}
+use Rattle.model.specs.Limits.{maxHorizon, workNumbers}
 use Rattle.model.specs.Run.{first}
 use Rattle.model.specs.Demand.{value}
 use Rattle.model.specs.Verdict.{exactSum}
@@ -38,7 +38,7 @@ pub record Progressed (s : Shape) (numbers : List ℕ) (lo width n r : ℕ) (w w
 pub record NextAdded (s : Shape) (numbers : List ℕ) (lo width n r : ℕ) (w w′ : List ℕ) : Type 0 where
   pub len : length w′ ≡ length w
   pub sum : look w′ (n + 1) ≡ look w (n + 1) + r
-  pub others : (x : ℕ) → x ≤ 2000 → (x ≡ n + 1 → ⊥) → look w′ x ≡ look w x
+  pub others : (x : ℕ) → x ≤ maxHorizon → (x ≡ n + 1 → ⊥) → look w′ x ≡ look w x
   pub above : (x : ℕ) → marksFrom ≤ x → look w′ x ≡ look w x
   pub each : Each s numbers (λ m. Progress m lo width (n + 1) w′ r)
 
@@ -47,7 +47,7 @@ pub record NextAdded (s : Shape) (numbers : List ℕ) (lo width n r : ℕ) (w w�
 pub record BoundsAdded (s : Shape) (numbers : List ℕ) (lo width n : ℕ) (w w′ : List ℕ) : Type 0 where
   pub len : length w′ ≡ length w
   pub sums : Each s numbers (λ m. (L : ℕ) → 1 ≤ L → L ≤ n → (v : ℕ) × (look w′ L ≡ look w L + v) × (v ≤ 32000) × Bound m lo width L v)
-  pub later : (x : ℕ) → n < x → x ≤ 2000 → look w′ x ≡ look w x
+  pub later : (x : ℕ) → n < x → x ≤ maxHorizon → look w′ x ≡ look w x
   pub above : (x : ℕ) → cellsFrom ≤ x → look w′ x ≡ look w x
 
 -- A sheet.
@@ -56,7 +56,7 @@ pub record BoundsAdded (s : Shape) (numbers : List ℕ) (lo width n : ℕ) (w w�
 pub record ModuleAdded (s : Sheet) (k lo width stop : ℕ) (w w′ : List ℕ) : Type 0 where
   pub len : length w′ ≡ length w
   pub sums : (L : ℕ) → 1 ≤ L → L ≤ stop → (v : ℕ) × (look w′ L ≡ look w L + v) × (v ≤ 32000) × Bound (moduleAt s k) lo width L v
-  pub kept : (x : ℕ) → stop < x → x ≤ 2000 → look w′ x ≡ look w x
+  pub kept : (x : ℕ) → stop < x → x ≤ maxHorizon → look w′ x ≡ look w x
   pub above : (x : ℕ) → workNumbers ≤ x → look w′ x ≡ look w x
 
 -- at each length up to stop stands a number that no sum exceeds of an interval of that length which ends in the range; the numbers at the lengths
@@ -64,5 +64,5 @@ pub record ModuleAdded (s : Sheet) (k lo width stop : ℕ) (w w′ : List ℕ) :
 pub record SumsBounded (s : Sheet) (lo width stop : ℕ) (w w′ : List ℕ) : Type 0 where
   pub len : length w′ ≡ length w
   pub above : (x : ℕ) → workNumbers ≤ x → look w′ x ≡ look w x
-  pub kept : (x : ℕ) → stop < x → x ≤ 2000 → look w′ x ≡ look w x
+  pub kept : (x : ℕ) → stop < x → x ≤ maxHorizon → look w′ x ≡ look w x
   pub sums : (L i : ℕ) → i < width → 1 ≤ L → L ≤ stop → L ≤ lo + i → exactSum s (lo + i - L) (lo + i) ≤ look w′ L

@@ -8,22 +8,22 @@ use borrow.Rule.Slice.PartMut.{putMid, midOf, same-len-mid}
 use Rattle.model.specs.Limits.{workNumbers}
 use Rattle.layers.specs.Step.{look, Cleared}
 use Rattle.layers.proofs.Parts.{part-length, back-here, back-below, back-above}
-use Rattle.memory.specs.Map.{cellsFrom}
+use Rattle.memory.specs.Map.{cellsFrom, cellNumbers}
 use Rattle.cells.specs.Cells.{CellsCleared}
 
-module _ (w ys : List ℕ) (room : workNumbers ≤ length w) (c : Cleared 5687 (midOf cellsFrom 5687 w) ys) where
-  size : length ys ≡ 5687
-  size = c .len ∙ part-length w cellsFrom 5687 room
+module _ (w ys : List ℕ) (room : workNumbers ≤ length w) (c : Cleared cellNumbers (midOf cellsFrom cellNumbers w) ys) where
+  size : length ys ≡ cellNumbers
+  size = c .len ∙ part-length w cellsFrom cellNumbers room
 
-  back-cell : (x : ℕ) → cellsFrom ≤ x → x < workNumbers → look (putMid cellsFrom 5687 w ys) x ≡ look ys (x - cellsFrom)
+  back-cell : (x : ℕ) → cellsFrom ≤ x → x < workNumbers → look (putMid cellsFrom cellNumbers w ys) x ≡ look ys (x - cellsFrom)
   back-cell x a b =
       let e : x ≡ cellsFrom + (x - cellsFrom) = omega arith in
-      ap (look (putMid cellsFrom 5687 w ys)) e ∙ back-here w cellsFrom 5687 room ys size (x - cellsFrom) (omega arith)
+      ap (look (putMid cellsFrom cellNumbers w ys)) e ∙ back-here w cellsFrom cellNumbers room ys size (x - cellsFrom) (omega arith)
 
-  pub cells-cleared : CellsCleared w (putMid cellsFrom 5687 w ys)
+  pub cells-cleared : CellsCleared w (putMid cellsFrom cellNumbers w ys)
   cells-cleared = record {
-    len = same-len-mid cellsFrom 5687 w ys (c .len);
+    len = same-len-mid cellsFrom cellNumbers w ys (c .len);
     cells = λ x a b. back-cell x a b ∙ c .zeros (x - cellsFrom) (omega arith);
-    others = back-below w cellsFrom 5687 room ys;
-    above = back-above w cellsFrom 5687 room ys size;
+    others = back-below w cellsFrom cellNumbers room ys;
+    above = back-above w cellsFrom cellNumbers room ys size;
   }

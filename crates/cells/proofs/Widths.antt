@@ -7,6 +7,7 @@ use native.Mathlib.Omega.{arith}
 use lib.ListN.{length}
 use Rattle.model.specs.Lists.{when}
 use Rattle.model.specs.Limits.{workNumbers}
+use Rattle.memory.specs.Map.{cellNumbers}
 use Rattle.cells.specs.Cells.{inQuestion, rows, Tile}
 use Rattle.cells.proofs.Rows.{rows-most, rows-last}
 
@@ -33,7 +34,7 @@ module _ (w : List ℕ) (lo horizon : ℕ) (last : horizon ≤ 2000) where
     pub widened-fits : (n + r) * (width + 1) ≤ 2000 * 512
     widened-fits = mul-le-mul {n₂ = 2000} {m₂ = 512} (omega (arith, counted, rows-most w (lo + width))) (omega arith)
 
-    pub widened-more : (n + r) * (width + 1) ≤ 5687 → Widened w lo horizon (width + 1) (n + r)
+    pub widened-more : (n + r) * (width + 1) ≤ cellNumbers → Widened w lo horizon (width + 1) (n + r)
     widened-more room = record {
       tile = record { memory = t .tile .memory; first = t .tile .first; few = omega arith; ends = omega arith; room = rw (sym count) (omega arith) };
       some = omega arith;

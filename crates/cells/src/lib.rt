@@ -6,11 +6,9 @@ ghost use Rattle.model.specs.Lists.{when};
 ghost use Rattle.model.specs.Limits.{workNumbers};
 ghost use Rattle.model.specs.Verdict.{exactAt, exactFrom};
 ghost use Rattle.cells.specs.Cells.{inQuestion, rows, Longest, Tile, Holding, CellsCleared, foundOf};
+use memory::CELL_NUMBERS;
 use memory::CELLS_FROM;
 use memory::WORK_NUMBERS;
-
-// How many cells there are: up to the end of the working memory.
-const CELLS: usize = WORK_NUMBERS - CELLS_FROM;
 
 // Whether an interval of the tile is over: the first one found, with its sum.
 pub enum Found {
@@ -64,7 +62,7 @@ pub fn width_at(work: &[u32], lo: usize, horizon: usize) -> usize
     let mut width = 1;
     while width < 512 && lo + width <= horizon {
         count += rows_at(work, lo + width);
-        if CELLS < count * (width + 1) {
+        if CELL_NUMBERS < count * (width + 1) {
             return width;
         }
         width += 1;
@@ -77,7 +75,7 @@ pub fn clear_cells(work: &mut [u32])
     requires { ⌜ workNumbers ≤ length (now work) ⌝ }
     ensures { λ _. ⌜ CellsCleared (now (work .entry)) (now (work .exit)) ⌝ }
 {
-    layers::clear(&mut work[CELLS_FROM..CELLS_FROM + CELLS], CELLS);
+    layers::clear(&mut work[CELLS_FROM..WORK_NUMBERS], CELL_NUMBERS);
 }
 
 // The shortest interval that ends at the end of the number i and is over.

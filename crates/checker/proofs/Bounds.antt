@@ -9,7 +9,7 @@ use native.Mathlib.Omega.{arith}
 use lib.ListN.{length}
 use lib.Seq.{take-length}
 use Rattle.model.specs.Lists.{sumOf}
-use Rattle.model.specs.Sheet.{Module, Sheet, modesIn, counts}
+use Rattle.model.specs.Sheet.{Module, Sheet, absent, modesIn, counts}
 use Rattle.model.specs.Limits.{maxBytes}
 use Rattle.model.specs.WellFormed.{ModuleRule, WellFormed}
 use Rattle.model.specs.Run.{first}
@@ -25,7 +25,7 @@ use Rattle.format.proofs.RoundTrip.{accepted-wellFormed, refused-place}
 use Rattle.query.specs.Answer.{Answer, refused, given, Terms, GivenBy, AnsweredBy, Answered}
 use Rattle.query.specs.Query.{WitnessedIs, exactTerms, ExactAnswer}
 use Rattle.sums.proofs.Sums.{demand-bound}
-use Rattle.quick.proofs.Summing.{sum-most}
+use Rattle.model.proofs.Summing.{sum-most}
 use Rattle.exact.specs.declared.Exact as exact
 use Rattle.exact.specs.declared.Exact.the-variants.{Refused, Clear, Over}
 use Rattle.exact.specs.Exact.{answerOf}
@@ -75,7 +75,6 @@ module _ (s : Sheet) (ok : WellFormed s) where
   -- a sum of what is at most c for each module
   sum-bound : (f : Module → ℕ) (c : ℕ) → ((m : Module) → ModuleRule m → f m ≤ c) → sumOf f (s .modules) ≤ c * length (s .modules)
   sum-bound f c each =
-      let absent : Module = record { modes = [] } in
       rw take-length at (sum-most f absent c (s .modules) (λ k i. each _ (all-at ModuleRule absent (s .modules) (ok .modules) k i)) (length (s .modules)) (le-refl _))
 
   pub modes-most : counts s .modes ≤ 64

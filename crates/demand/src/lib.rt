@@ -12,6 +12,7 @@ ghost use Rattle.place.specs.There.{ModeThere, SomeMode};
 ghost use Rattle.demand.specs.Demanded.{answerOf};
 ghost use Rattle.demand.specs.Counted.{Times, Countable, Counted};
 use judge::Judged;
+use judge::OUT_OF_RANGE;
 use place::Task;
 
 // The demand that is asked for, or the refusal's number and place.
@@ -23,9 +24,6 @@ pub enum Demand {
 pub struct Amount {
     pub demand: u32,
 }
-
-// The refusal number of an argument out of range.
-const OUT_OF_RANGE: u8 = 9;
 
 // How many instances of the task are released at or after a and due at or before b: of those due by b, those that are not released before a.
 fn instances(task: Task, a: u32, b: u32) -> u32

@@ -1,6 +1,6 @@
 -- Two calls with the same sheet and the same lent memory that meet the contract agree: in the answer, in the whole tape memory, and in all of the
 -- working memory that the answer does not use. Assumes nothing.
-use mathlib.Core.Path.{_≡_, refl, sym, _∙_, ap, subst}
+use mathlib.Core.Path.{_≡_, refl, sym, ap, subst}
 use mathlib.Core.List.{List, []}
 use Prim.Native.Nat.{ℕ}
 use native.Mathlib.Omega.{arith}

@@ -11,6 +11,7 @@ ghost use Rattle.exact.specs.Exact.{ExactTested};
 ghost use Rattle.exact.specs.Asking.{Asks, sound};
 use cells::Found;
 use judge::Judged;
+use judge::MEMORY_TOO_SMALL;
 use judge::Sheet;
 
 /// What the exact test says: the refusal's number and place, clear, or over.
@@ -32,9 +33,6 @@ enum Asked {
     Refused { number: u8, place: usize },
     Sound { modules: usize, horizon: usize },
 }
-
-// The refusal number of too little memory.
-const MEMORY_TOO_SMALL: u8 = 10;
 
 /// Whether the memory of each kind is enough.
 pub fn is_enough(modules: usize, horizon: usize, work: usize, tape: usize) -> bool

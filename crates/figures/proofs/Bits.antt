@@ -8,6 +8,7 @@ use lib.ListN.{getD}
 use lib.Count.{under, trailingZeros}
 use lib.Pow.{shr-shr}
 use borrow.Author.Tests.{eq-eqb, ne-eqb}
+use Rattle.memory.specs.Map.{markRowNumbers}
 use Rattle.figures.specs.Offers.{Quiet}
 
 low-digits : (k n x : ℕ) → x < trailingZeros k n → n / 2 ^ x % 2 ≡ 0
@@ -30,7 +31,7 @@ first-digit k n h = pick (n % 2) refl h
 
 -- what is left, from tick t on, of the word that tick t of mode k is in
 abbrev pub restAt : List ℕ → ℕ → ℕ → ℕ
-restAt bits k t = getD bits (63 * k + t / 32) 0 / 2 ^ (t % 32)
+restAt bits k t = getD bits (markRowNumbers * k + t / 32) 0 / 2 ^ (t % 32)
 
 pub quiet-of : (bits : List ℕ) (k t r : ℕ) → r ≡ min (trailingZeros 32 (restAt bits k t)) (32 - t % 32) → Quiet bits k t r
 quiet-of bits k t r e = record { most = omega arith; none = λ x h. ne-eqb _ _ (clear x h); some = λ z. eq-eqb _ _ (first-digit 31 (restAt bits k t) (omega arith)) }
@@ -40,4 +41,4 @@ quiet-of bits k t r e = record { most = omega arith; none = λ x h. ne-eqb _ _ (
         let word : (t + x) / 32 ≡ t / 32 = omega arith in
         let digit : (t + x) % 32 ≡ t % 32 + x = omega arith in
         let zero : restAt bits k t / 2 ^ x % 2 ≡ 0 = low-digits 32 (restAt bits k t) x (omega arith) in
-        omega (arith, rw (word, digit) at one, rw (shr-shr (getD bits (63 * k + t / 32) 0) (t % 32) x) at zero)
+        omega (arith, rw (word, digit) at one, rw (shr-shr (getD bits (markRowNumbers * k + t / 32) 0) (t % 32) x) at zero)

@@ -1,17 +1,16 @@
 // The figures of a module: for each end of a tile the largest demand in so many ticks before it over runs from tick 0, one length after the other.
 ghost use mathlib.Core.Path.{_≡_};
-ghost use mathlib.Core.Bool.{false};
 ghost use Prim.Native.Nat.{ℕ, _+_, _-_, _*_, _/_, _^_, _<_, _≤_};
 ghost use lib.ListN.{length};
 ghost use Rattle.layers.specs.Step.{look, total, period, TasksReady, ModeReady};
-ghost use Rattle.memory.specs.Map.{rowTicks, markNumbers};
+ghost use Rattle.memory.specs.Map.{markRowTicks, markNumbers};
 ghost use Rattle.figures.specs.Figures.{Growable, Grown, Added};
 ghost use Rattle.figures.specs.Offers.{Raised, TickOffer, TimeOffer, TaskOffer, ModeOffer, ShapeOffer, Quiet, AnyMark, Room};
 use layers::Shape;
 use layers::larger;
 use layers::smaller;
-use memory::ROW_NUMBERS;
-use memory::ROW_TICKS;
+use memory::MARK_ROW_NUMBERS;
+use memory::MARK_ROW_TICKS;
 
 // a less b, and 0 where b is more.
 pub fn less(a: usize, b: usize) -> usize
@@ -22,16 +21,16 @@ pub fn less(a: usize, b: usize) -> usize
 
 // How many ticks from t on are known to bear no mark of mode k: 0 exactly where t bears one.
 fn quiet(bits: &[u32], k: usize, t: usize) -> usize
-    requires { ⌜ (k < 8) × (t < rowTicks) × (markNumbers ≤ length (now bits)) ⌝ }
+    requires { ⌜ (k < 8) × (t < markRowTicks) × (markNumbers ≤ length (now bits)) ⌝ }
     ensures { λ r. ⌜ Quiet (now (bits .entry)) k t r ⌝ }
 {
-    let rest = bits[ROW_NUMBERS * k + t / 32] >> (t % 32);
+    let rest = bits[MARK_ROW_NUMBERS * k + t / 32] >> (t % 32);
     smaller(u32::trailing_zeros(rest) as usize, 32 - t % 32)
 }
 
 // Whether a tick from a on and before b bears a mark of mode k.
 pub fn any_mark(bits: &[u32], k: usize, a: usize, b: usize) -> bool
-    requires { ⌜ (k < 8) × (b ≤ rowTicks) × (markNumbers ≤ length (now bits)) ⌝ }
+    requires { ⌜ (k < 8) × (b ≤ markRowTicks) × (markNumbers ≤ length (now bits)) ⌝ }
     ensures { λ r. ⌜ AnyMark (now (bits .entry)) k a b r ⌝ }
 {
     let mut t = a;
@@ -157,7 +156,7 @@ fn offer_mode(
     let to = from + shape.periods[k] as usize;
     let a = shape.starts[k] as usize;
     let e = shape.starts[k + 1] as usize;
-    if any_mark(bits, k, 0, ROW_TICKS) {
+    if any_mark(bits, k, 0, MARK_ROW_TICKS) {
         offer_tasks(fig, &layer[from..to], &numbers[a..e], bits, k, lo, l);
     }
     to

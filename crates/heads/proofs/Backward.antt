@@ -13,6 +13,7 @@ use Rattle.model.specs.Run.{State as Moment, at, modeAt}
 use Rattle.model.specs.Demand.{value}
 use Rattle.model.proofs.Bounds.{value-fits}
 use Rattle.model.proofs.Runs.{period-positive}
+use Rattle.memory.specs.Map.{layerNumbers}
 use Rattle.layers.specs.declared.Shape.{Shape}
 use Rattle.layers.specs.Step.{look, total, period, Cleared}
 use Rattle.layers.specs.Layer.{place, Holds, earlier, Told, Tells, Each, Steppable, SteppedBy}
@@ -29,7 +30,7 @@ use Rattle.heads.proofs.Pairs.{packed-head, head-same}
 holds-same : (m : Module) (n : ℕ) (f g : Moment → ℕ) (w : List ℕ) → ((k d : ℕ) → f (at k d) ≡ g (at k d)) → Holds m n f w → Holds m n g w
 holds-same m n f g w same h = record { room = h .room; holds = λ k d l i. h .holds k d l i ∙ same k d }
 
-holds-kept : (m : Module) → ModuleRule m → (n : ℕ) (f : Moment → ℕ) (w w′ : List ℕ) → length w′ ≡ length w → ((x : ℕ) → x < 8192 → look w′ x ≡ look w x) → Holds m n f w → Holds m n f w′
+holds-kept : (m : Module) → ModuleRule m → (n : ℕ) (f : Moment → ℕ) (w w′ : List ℕ) → length w′ ≡ length w → ((x : ℕ) → x < layerNumbers → look w′ x ≡ look w x) → Holds m n f w → Holds m n f w′
 holds-kept m ok n f w w′ len same h = record {
   room = omega (arith, h .room);
   holds = λ k d l i.
@@ -37,7 +38,7 @@ holds-kept m ok n f w w′ len same h = record {
       same (place m k ((d + n) % p)) (omega (arith, place-inside m k ((d + n) % p) l (mod-lt (d + n) (omega arith)), states-bound m ok)) ∙ h .holds k d l i;
 }
 
-pub states-few : (s : Shape) (numbers : List ℕ) → Tells s numbers → total (s .periods) (s .modes) ≤ 8192
+pub states-few : (s : Shape) (numbers : List ℕ) → Tells s numbers → total (s .periods) (s .modes) ≤ layerNumbers
 states-few s numbers t = omega (arith, states-told (t .owner) s numbers (t .told), states-bound (t .owner) (t .rule))
 
 -- The heads of the layer.

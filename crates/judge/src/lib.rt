@@ -60,7 +60,7 @@ struct Turn {
     next: Sheet,
 }
 
-// The refusal numbers.
+// The refusal numbers: those of a sheet, and those of a call on a sound one.
 const CUT_SHORT: u8 = 1;
 
 const UNKNOWN_MARK: u8 = 2;
@@ -76,6 +76,10 @@ const BAD_SWITCH: u8 = 6;
 const BAD_END: u8 = 7;
 
 const BYTES_AFTER: u8 = 8;
+
+pub const OUT_OF_RANGE: u8 = 9;
+
+pub const MEMORY_TOO_SMALL: u8 = 10;
 
 // The mark whose two bytes are this number, the first one high.
 fn listed(code: u16) -> Found

@@ -12,6 +12,7 @@ use lib.ListN.{length, getD, set, length-set}
 use lib.Seq.{getD-set-same, getD-set-other}
 use lib.Bits.{bitOr}
 use borrow.Author.Tests.{eq-eqb}
+use Rattle.memory.specs.Map.{markRowNumbers, markRowTicks, markNumbers}
 use Rattle.layers.specs.declared.Shape.{Shape}
 use Rattle.layers.specs.Step.{period, lists, every}
 use Rattle.marks.specs.Marks.{marked}
@@ -20,48 +21,48 @@ use Rattle.marks.proofs.Bits.{bit, set-on, set-other}
 
 -- One mark.
 
-module _ (k t : ℕ) (w : List ℕ) (hk : k < 8) (ht : t < 2016) (room : 504 ≤ length w) where
+module _ (k t : ℕ) (w : List ℕ) (hk : k < 8) (ht : t < markRowTicks) (room : markNumbers ≤ length w) where
   abbrev after : List ℕ
-  after = set w (63 * k + t / 32) (bitOr (getD w (63 * k + t / 32) 0) (2 ^ (t % 32)))
+  after = set w (markRowNumbers * k + t / 32) (bitOr (getD w (markRowNumbers * k + t / 32) 0) (2 ^ (t % 32)))
 
-  held : getD after (63 * k + t / 32) 0 ≡ bitOr (getD w (63 * k + t / 32) 0) (2 ^ (t % 32))
-  held = getD-set-same w (63 * k + t / 32) _ 0 (omega arith)
+  held : getD after (markRowNumbers * k + t / 32) 0 ≡ bitOr (getD w (markRowNumbers * k + t / 32) 0) (2 ^ (t % 32))
+  held = getD-set-same w (markRowNumbers * k + t / 32) _ 0 (omega arith)
 
   here : marked after k t ≡ true
-  here = eq-eqb _ _ (ap (λ (v : ℕ). bit v (t % 32)) held ∙ set-on (getD w (63 * k + t / 32) 0) (t % 32))
+  here = eq-eqb _ _ (ap (λ (v : ℕ). bit v (t % 32)) held ∙ set-on (getD w (markRowNumbers * k + t / 32) 0) (t % 32))
 
-  elsewhere : (j x : ℕ) → j < 8 → x < 2016 → ((j ≡ k) × (x ≡ t) → ⊥) → marked after j x ≡ marked w j x
-  elsewhere j x hj hx other = pick (decEq (63 * j + x / 32) (63 * k + t / 32))
+  elsewhere : (j x : ℕ) → j < 8 → x < markRowTicks → ((j ≡ k) × (x ≡ t) → ⊥) → marked after j x ≡ marked w j x
+  elsewhere j x hj hx other = pick (decEq (markRowNumbers * j + x / 32) (markRowNumbers * k + t / 32))
     where
-      pick : Dec (63 * j + x / 32 ≡ 63 * k + t / 32) → marked after j x ≡ marked w j x
+      pick : Dec (markRowNumbers * j + x / 32 ≡ markRowNumbers * k + t / 32) → marked after j x ≡ marked w j x
       pick (yes e) =
           let row : j ≡ k = omega arith in
           let same : x / 32 ≡ t / 32 = omega arith in
           let apart : x % 32 ≢ t % 32 = λ r. other (row, omega arith) in
-          ap (λ (v : ℕ). eqb v 1) (ap (λ (y : ℕ). bit (getD after y 0) (x % 32)) e ∙ ap (λ (v : ℕ). bit v (x % 32)) held ∙ set-other (getD w (63 * k + t / 32) 0) (t % 32) (x % 32) apart ∙ ap (λ (y : ℕ). bit (getD w y 0) (x % 32)) (sym e))
-      pick (no e) = ap (λ (v : ℕ). eqb (bit v (x % 32)) 1) (getD-set-other w (63 * k + t / 32) (63 * j + x / 32) _ 0 e)
+          ap (λ (v : ℕ). eqb v 1) (ap (λ (y : ℕ). bit (getD after y 0) (x % 32)) e ∙ ap (λ (v : ℕ). bit v (x % 32)) held ∙ set-other (getD w (markRowNumbers * k + t / 32) 0) (t % 32) (x % 32) apart ∙ ap (λ (y : ℕ). bit (getD w y 0) (x % 32)) (sym e))
+      pick (no e) = ap (λ (v : ℕ). eqb (bit v (x % 32)) 1) (getD-set-other w (markRowNumbers * k + t / 32) (markRowNumbers * j + x / 32) _ 0 e)
 
   one-marked : Marking (λ j x. (j ≡ k) × (x ≡ t)) w after
   one-marked = record {
     len = length-set w _ _;
-    above = λ x h. getD-set-other w (63 * k + t / 32) x _ 0 (omega arith);
+    above = λ x h. getD-set-other w (markRowNumbers * k + t / 32) x _ 0 (omega arith);
     old = λ j x hj hx o. keep j x hj hx o (decEq j k) (decEq x t);
     new = λ j x hj hx e. rw (e .0, e .1) here;
     only = λ j x hj hx o. back j x hj hx o (decEq j k) (decEq x t);
   }
     where
-      keep : (j x : ℕ) → j < 8 → x < 2016 → marked w j x ≡ true → Dec (j ≡ k) → Dec (x ≡ t) → marked after j x ≡ true
+      keep : (j x : ℕ) → j < 8 → x < markRowTicks → marked w j x ≡ true → Dec (j ≡ k) → Dec (x ≡ t) → marked after j x ≡ true
       keep j x hj hx o (yes a) (yes b) = rw (a, b) here
       keep j x hj hx o (no a) d = elsewhere j x hj hx (λ e. a (e .0)) ∙ o
       keep j x hj hx o (yes a) (no b) = elsewhere j x hj hx (λ e. b (e .1)) ∙ o
 
-      back : (j x : ℕ) → j < 8 → x < 2016 → marked after j x ≡ true → Dec (j ≡ k) → Dec (x ≡ t) → (marked w j x ≡ true) ⊎ ((j ≡ k) × (x ≡ t))
+      back : (j x : ℕ) → j < 8 → x < markRowTicks → marked after j x ≡ true → Dec (j ≡ k) → Dec (x ≡ t) → (marked w j x ≡ true) ⊎ ((j ≡ k) × (x ≡ t))
       back j x hj hx o (yes a) (yes b) = inr (a, b)
       back j x hj hx o (no a) d = inl (sym (elsewhere j x hj hx (λ e. a (e .0))) ∙ o)
       back j x hj hx o (yes a) (no b) = inl (sym (elsewhere j x hj hx (λ e. b (e .1))) ∙ o)
 
-pub mark-one : (k t v : ℕ) (w : List ℕ) → v ≡ 2 ^ (t % 32) → k < 8 → t < 2016 → 504 ≤ length w
-    → Marking (λ j x. (j ≡ k) × (x ≡ t)) w (set w (63 * k + t / 32) (bitOr (getD w (63 * k + t / 32) 0) v))
+pub mark-one : (k t v : ℕ) (w : List ℕ) → v ≡ 2 ^ (t % 32) → k < 8 → t < markRowTicks → markNumbers ≤ length w
+    → Marking (λ j x. (j ≡ k) × (x ≡ t)) w (set w (markRowNumbers * k + t / 32) (bitOr (getD w (markRowNumbers * k + t / 32) 0) v))
 mark-one k t v w e hk ht room = rw e (one-marked k t w hk ht room)
 
 -- One step after another.
@@ -104,7 +105,7 @@ pub marking-at : (P : ℕ → ℕ → ℕ → Type 0) (a b : ℕ) {w w′ : List
 marking-at P a b {w} {w′} e A = subst (λ (n : ℕ). Marking (P n) w w′) e A
 
 -- where all of P is at tick n or later, the marks before it are as they were
-marking-before : (P : ℕ → ℕ → Type 0) (n : ℕ) {w w′ : List ℕ} → ((k t : ℕ) → P k t → n ≤ t) → Marking P w w′ → (k t : ℕ) → k < 8 → t < 2016 → t < n → marked w′ k t ≡ true → marked w k t ≡ true
+marking-before : (P : ℕ → ℕ → Type 0) (n : ℕ) {w w′ : List ℕ} → ((k t : ℕ) → P k t → n ≤ t) → Marking P w w′ → (k t : ℕ) → k < 8 → t < markRowTicks → t < n → marked w′ k t ≡ true → marked w k t ≡ true
 marking-before P n later A k t a b l o = ⊎-elim (λ z. z) (λ p. absurd (omega (arith, later k t p))) (A .only k t a b o)
 
 -- The strides of a switch.
@@ -227,7 +228,7 @@ walked-kept P {s} {h} {t} {w} {w′} ok later A W = record { room = record { wit
 pub tick-later : (s : Shape) (h t : ℕ) → Walkable s → (n : ℕ) (w : List ℕ) → n ≤ s .modes → (j x : ℕ) → Tick s h t n w j x → t < x
 tick-later s h t ok n w i j x a = follows-later s h (a .mode) t j x ok (omega (arith, a .there)) (a .follows) .1
 
-module _ (s : Shape) (h t : ℕ) (ok : Walkable s) (in-row : t < 2016) where
+module _ (s : Shape) (h t : ℕ) (ok : Walkable s) (in-row : t < markRowTicks) where
   -- the marks at the tick itself are as they were
   pub tick-same : (n : ℕ) {w w′ : List ℕ} → n ≤ s .modes → Marking (Tick s h t n w) w w′ → (k : ℕ) → k < 8 → marked w′ k t ≡ true → marked w k t ≡ true
   tick-same n {w} i A k l = marking-before _ (t + 1) (λ j x a. omega (arith, tick-later s h t ok n w i j x a)) A k t l in-row (omega arith)

@@ -10,7 +10,7 @@ use lib.Dec.{eqb}
 use lib.ListN.{getD}
 use lib.Seq.{ext-getD}
 use borrow.Author.Tests.{eqb-true, eq-eqb}
-use Rattle.memory.specs.Map.{rowNumbers, rowTicks, markNumbers}
+use Rattle.memory.specs.Map.{markRowNumbers, markRowTicks, markNumbers}
 use Rattle.layers.specs.declared.Shape.{Shape}
 use Rattle.layers.specs.Layer.{Tells}
 use Rattle.marks.specs.Marks.{marked}
@@ -40,7 +40,7 @@ Small w = (x : ℕ) → getD w x 0 < 2 ^ 32
 
 module _ {s : Shape} {h : ℕ} {w numbers : List ℕ} (t : Tells s numbers) where
   -- what the one marks the other marks
-  also : {u v : List ℕ} → Entered s h w u → Entered s h w v → (k x : ℕ) → k < 8 → x < rowTicks → marked u k x ≡ true → marked v k x ≡ true
+  also : {u v : List ℕ} → Entered s h w u → Entered s h w v → (k x : ℕ) → k < 8 → x < markRowTicks → marked u k x ≡ true → marked v k x ≡ true
   also a b k x i j o =
       let (there, within) = a .inside k x i j o in
       b .marks (t .owner) numbers (t .rule) (t .told) .complete k x within (a .marks (t .owner) numbers (t .rule) (t .told) .sound k x (omega (arith, t .told .modes)) within o)
@@ -51,12 +51,12 @@ module _ {s : Shape} {h : ℕ} {w numbers : List ℕ} (t : Tells s numbers) wher
     where
       digit : (x i : ℕ) → x < markNumbers → i < 32 → bit (getD u x 0) i ≡ bit (getD v x 0) i
       digit x i h l =
-          let k : ℕ = x / rowNumbers in
-          let e : ℕ = 32 * (x % rowNumbers) + i in
-          let number : rowNumbers * (x / rowNumbers) + (32 * (x % rowNumbers) + i) / 32 ≡ x = omega arith in
-          let place : (32 * (x % rowNumbers) + i) % 32 ≡ i = omega arith in
+          let k : ℕ = x / markRowNumbers in
+          let e : ℕ = 32 * (x % markRowNumbers) + i in
+          let number : markRowNumbers * (x / markRowNumbers) + (32 * (x % markRowNumbers) + i) / 32 ≡ x = omega arith in
+          let place : (32 * (x % markRowNumbers) + i) % 32 ≡ i = omega arith in
           rw (number, place) at
-          (bit-same (bit (getD u (rowNumbers * k + e / 32) 0) (e % 32)) (bit (getD v (rowNumbers * k + e / 32) 0) (e % 32)) (mod-lt _ (omega arith)) (mod-lt _ (omega arith))
+          (bit-same (bit (getD u (markRowNumbers * k + e / 32) 0) (e % 32)) (bit (getD v (markRowNumbers * k + e / 32) 0) (e % 32)) (mod-lt _ (omega arith)) (mod-lt _ (omega arith))
           (also a b k e (omega arith) (omega arith)) (also b a k e (omega arith) (omega arith)))
 
       pick : (x : ℕ) → Dec (x < markNumbers) → getD u x 0 ≡ getD v x 0

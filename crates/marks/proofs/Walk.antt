@@ -13,6 +13,7 @@ use Rattle.model.specs.Sheet.{Module}
 use Rattle.model.specs.WellFormed.{ModuleRule}
 use Rattle.model.specs.Run.{modeAt}
 use Rattle.model.proofs.Runs.{switch-rule}
+use Rattle.memory.specs.Map.{markRowNumbers, markRowTicks, markNumbers}
 use Rattle.entries.specs.Entry.{Entry, begins, Leads}
 use Rattle.entries.proofs.Reaches.{entry-listed}
 use Rattle.entries.proofs.Strides.{entry-led, entry-first, entry-earlier}
@@ -40,13 +41,13 @@ kept-more K A = record { len = A .len ∙ K .len; above = λ x h. A .above x h �
 
 -- Where no number is set nothing is marked.
 
-blank : (w w′ : List ℕ) → Cleared 504 w w′ → (k t : ℕ) → k < 8 → t < 2016 → marked w′ k t ≡ true → ⊥
+blank : (w w′ : List ℕ) → Cleared markNumbers w w′ → (k t : ℕ) → k < 8 → t < markRowTicks → marked w′ k t ≡ true → ⊥
 blank w w′ c k t hk ht o =
-    let z : getD w′ (63 * k + t / 32) 0 ≡ 0 = c .zeros (63 * k + t / 32) (omega arith) in
+    let z : getD w′ (markRowNumbers * k + t / 32) 0 ≡ 0 = c .zeros (markRowNumbers * k + t / 32) (omega arith) in
     let q : 0 / 2 ^ (t % 32) % 2 ≡ 1 = ap (λ (v : ℕ). v / 2 ^ (t % 32) % 2) (sym z) ∙ eqb-true _ _ o in
     omega (arith, zero-div (2 ^ (t % 32)))
 
-pub followed-start : (s : Shape) (h : ℕ) (w w′ w″ : List ℕ) → 1 ≤ s .modes → h ≤ 2000 → 504 ≤ length w → Cleared 504 w w′ → Marking (λ j x. (j ≡ 0) × (x ≡ 0)) w′ w″ → Followed s h 0 w″
+pub followed-start : (s : Shape) (h : ℕ) (w w′ w″ : List ℕ) → 1 ≤ s .modes → h ≤ 2000 → markNumbers ≤ length w → Cleared markNumbers w w′ → Marking (λ j x. (j ≡ 0) × (x ≡ 0)) w′ w″ → Followed s h 0 w″
 followed-start s h w w′ w″ some most room c A = record {
   walked = record { room = record { within = omega arith; most = most; numbers = omega (arith, A .len, c .len) }; closed = λ k e j x i l. absurd (omega arith) };
   first = A .new 0 0 (omega arith) (omega arith) (refl, refl);
@@ -54,7 +55,7 @@ followed-start s h w w′ w″ some most room c A = record {
   sound = λ m numbers rule told k t i l o. let (a, b) = alone k t (omega (arith, rule .most)) (omega arith) o in begins a b;
 }
   where
-    alone : (k t : ℕ) → k < 8 → t < 2016 → marked w″ k t ≡ true → (k ≡ 0) × (t ≡ 0)
+    alone : (k t : ℕ) → k < 8 → t < markRowTicks → marked w″ k t ≡ true → (k ≡ 0) × (t ≡ 0)
     alone k t i l o = ⊎-elim (λ z. absurd (blank w w′ c k t i l z)) (λ z. z) (A .only k t i l o)
 
 -- By the numbers a mode leads to what it leads to in the module that they tell.
@@ -128,7 +129,7 @@ module _ (s : Shape) (h : ℕ) (w : List ℕ) (F : Followed s h h w) (m : Module
   entries-marked zero k t i l x = absurd (omega arith)
   entries-marked (suc n) k t i l x = entry-marked k t l x (λ j e b y. entries-marked n j e (omega arith) (omega arith) y)
 
-pub entered : (s : Shape) (h : ℕ) {P : ℕ → ℕ → Type 0} {w w′ w″ end : List ℕ} → Cleared 504 w w′ → Marking P w′ w″ → Kept w″ end → Followed s h h end → Entered s h w end
+pub entered : (s : Shape) (h : ℕ) {P : ℕ → ℕ → Type 0} {w w′ w″ end : List ℕ} → Cleared markNumbers w w′ → Marking P w′ w″ → Kept w″ end → Followed s h h end → Entered s h w end
 entered s h {end = end} c A K F = record {
   len = K .len ∙ A .len ∙ c .len;
   above = λ x l. K .above x l ∙ A .above x l ∙ c .above x l;

@@ -11,16 +11,16 @@ use Rattle.entries.specs.Entry.{Entry}
 use Rattle.layers.specs.declared.Shape.{Shape}
 use Rattle.layers.specs.Step.{period, lists, every}
 use Rattle.layers.specs.Layer.{Told}
-use Rattle.memory.specs.Map.{rowTicks, markNumbers}
+use Rattle.memory.specs.Map.{markRowTicks, markNumbers}
 use Rattle.marks.specs.Marks.{marked, Marks}
 
 -- the marks of w′ are those of w and those of P, a relation of modes and ticks; the numbers behind the rows are as they were
 pub record Marking (P : ℕ → ℕ → Type 0) (w w′ : List ℕ) : Type 0 where
   pub len : length w′ ≡ length w
   pub above : (x : ℕ) → markNumbers ≤ x → getD w′ x 0 ≡ getD w x 0
-  pub old : (k t : ℕ) → k < 8 → t < rowTicks → marked w k t ≡ true → marked w′ k t ≡ true
-  pub new : (k t : ℕ) → k < 8 → t < rowTicks → P k t → marked w′ k t ≡ true
-  pub only : (k t : ℕ) → k < 8 → t < rowTicks → marked w′ k t ≡ true → (marked w k t ≡ true) ⊎ P k t
+  pub old : (k t : ℕ) → k < 8 → t < markRowTicks → marked w k t ≡ true → marked w′ k t ≡ true
+  pub new : (k t : ℕ) → k < 8 → t < markRowTicks → P k t → marked w′ k t ≡ true
+  pub only : (k t : ℕ) → k < 8 → t < markRowTicks → marked w′ k t ≡ true → (marked w k t ≡ true) ⊎ P k t
 
 -- there is room for the marks, and t is a tick up to the horizon h
 pub record Room (h t : ℕ) (w : List ℕ) : Type 0 where
@@ -71,7 +71,7 @@ pub record Walked (s : Shape) (h t : ℕ) (w : List ℕ) : Type 0 where
 
 -- every mark is that of a mode, at a tick up to the horizon h
 abbrev pub Inside : Shape → ℕ → List ℕ → Type 0
-Inside s h w = (k t : ℕ) → k < 8 → t < rowTicks → marked w k t ≡ true → (k < s .modes) × (t ≤ h)
+Inside s h w = (k t : ℕ) → k < 8 → t < markRowTicks → marked w k t ≡ true → (k < s .modes) × (t ≤ h)
 
 -- it has come from the first entry: that is marked, and the marks, of modes up to the horizon, are entries of whichever module the numbers tell
 pub record Followed (s : Shape) (h t : ℕ) (w : List ℕ) : Type 0 where

@@ -6,12 +6,12 @@ use Prim.Native.Nat.{ℕ, _+_, _*_, _/_, _%_, _^_, _≤_, _<_}
 use lib.Dec.{eqb}
 use lib.ListN.{length, getD}
 use Rattle.model.specs.Sheet.{Module}
-use Rattle.memory.specs.Map.{rowNumbers}
+use Rattle.memory.specs.Map.{markRowNumbers}
 use Rattle.entries.specs.Entry.{Entry}
 
 -- tick t of the mode k is marked
 abbrev pub marked : List ℕ → ℕ → ℕ → Bool
-marked bits k t = eqb (getD bits (rowNumbers * k + t / 32) 0 / 2 ^ (t % 32) % 2) 1
+marked bits k t = eqb (getD bits (markRowNumbers * k + t / 32) 0 / 2 ^ (t % 32) % 2) 1
 
 -- up to the horizon the marks are the entries
 pub record Marks (m : Module) (horizon : ℕ) (bits : List ℕ) : Type 0 where

@@ -2,9 +2,9 @@
 ghost use mathlib.Core.Path.{_≡_};
 ghost use mathlib.Core.Bool.{true, false};
 ghost use mathlib.Core.List.{List};
-ghost use Prim.Native.Nat.{ℕ, _+_, _-_, _*_, _/_, _≤_, _<_, max};
+ghost use Prim.Native.Nat.{ℕ, _+_, _-_, _≤_, _<_, max};
 ghost use lib.ListN.{length};
-ghost use Rattle.memory.specs.Map.{rowTicks, markNumbers};
+ghost use Rattle.memory.specs.Map.{markRowTicks, markNumbers};
 ghost use Rattle.layers.specs.Step.{period, lists, every};
 ghost use Rattle.layers.specs.Layer.{Tells};
 ghost use Rattle.marks.specs.Marks.{marked};
@@ -12,22 +12,22 @@ ghost use Rattle.marks.specs.Marking.{Marking, Room, Stride, Laid, Opens
 use layers::Shape;
 use layers::smaller;
 use memory::MARK_NUMBERS;
-use memory::ROW_NUMBERS;
+use memory::MARK_ROW_NUMBERS;
 
 // Whether tick t of mode k is marked.
 pub fn is_marked(bits: &[u32], k: usize, t: usize) -> bool
-    requires { ⌜ (k < 8) × (t < rowTicks) × (markNumbers ≤ length (now bits)) ⌝ }
+    requires { ⌜ (k < 8) × (t < markRowTicks) × (markNumbers ≤ length (now bits)) ⌝ }
     ensures { λ r. ⌜ r ≡ marked (now (bits .entry)) k t ⌝ }
 {
-    (bits[ROW_NUMBERS * k + t / 32] >> (t % 32)) % 2 == 1
+    (bits[MARK_ROW_NUMBERS * k + t / 32] >> (t % 32)) % 2 == 1
 }
 
 // Mode k can be begun at tick t.
 fn mark(bits: &mut [u32], k: usize, t: usize)
-    requires { ⌜ (k < 8) × (t < rowTicks) × (markNumbers ≤ length (now bits)) ⌝ }
+    requires { ⌜ (k < 8) × (t < markRowTicks) × (markNumbers ≤ length (now bits)) ⌝ }
     ensures { λ _. ⌜ Marking (λ j x. (j ≡ k) × (x ≡ t)) (now (bits .entry)) (now (bits .exit)) ⌝ }
 {
-    let x = ROW_NUMBERS * k + t / 32;
+    let x = MARK_ROW_NUMBERS * k + t / 32;
     bits[x] = bits[x] | (1 << (t % 32));
 }
 
@@ -44,7 +44,7 @@ fn mark_again(bits: &mut [u32], horizon: usize, t: usize, p: u16, k: usize)
 
 // The first to be marked of n strides of q from t on: where mode k can be begun a stride earlier too, all but the last are marked.
 fn first_stride(bits: &[u32], t: usize, q: usize, k: usize, n: usize) -> usize
-    requires { ⌜ (k < 8) × (t < rowTicks) × (markNumbers ≤ length (now bits)) ⌝ }
+    requires { ⌜ (k < 8) × (t < markRowTicks) × (markNumbers ≤ length (now bits)) ⌝ }
     ensures { λ r. ⌜ (1 ≤ r) × (r ≤ max 1 n) × (1 < r → (q ≤ t) × (marked (now (bits .entry)) k (t - q) ≡ true)) ⌝ }
 {
     if 1 < n && q <= t && is_marked(bits, k, t - q) {
@@ -117,7 +117,7 @@ fn mark_tick(bits: &mut [u32], horizon: usize, t: usize, shape: Shape)
 
 // Whether one of the first n modes is marked at tick t.
 fn is_any_marked(bits: &[u32], n: usize, t: usize) -> bool
-    requires { ⌜ (n ≤ 8) × (t < rowTicks) × (markNumbers ≤ length (now bits)) ⌝ }
+    requires { ⌜ (n ≤ 8) × (t < markRowTicks) × (markNumbers ≤ length (now bits)) ⌝ }
     ensures { λ r. ⌜ (r ≡ false → (k : ℕ) → k < n → marked (now (bits .entry)) k t ≡ false) ⌝ }
 {
     let mut k = 0;

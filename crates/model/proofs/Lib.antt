@@ -6,3 +6,4 @@ pub mod ModeDemands
 pub mod Verdicts
 pub mod Tapes
 pub mod Bounds
+pub mod Summing

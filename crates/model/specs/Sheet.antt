@@ -26,9 +26,13 @@ pub record Sheet : Type 0 where
   pub horizon : ℕ
   pub modules : List Module
 
+-- what a number names that no module of the sheet has
+abbrev pub absent : Module
+absent = record { modes = [] }
+
 -- the module of a number; a number that no module has names one without modes
 abbrev pub moduleAt : Sheet → ℕ → Module
-moduleAt s k = getD (s .modules) k (record { modes = [] })
+moduleAt s k = getD (s .modules) k absent
 
 -- how many of each a module and a sheet have
 abbrev pub modesIn : Module → ℕ

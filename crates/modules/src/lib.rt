@@ -14,7 +14,7 @@ pub struct Engine {
     pub numbers: [u16; 512],
 }
 
-/// The module k, from its rows and the sheet's tasks.
+/// The module k, from its row and the sheet's tasks.
 pub fn engine_of(sheet: &[u8], k: usize, row: ModuleRow) -> Engine
     requires { ⌜ Accepted (now sheet) ⌝ }
     requires { ⌜ k < length (sheetIn (now sheet) .modules) ⌝ }

@@ -1,25 +1,28 @@
 -- A report that is written is what is printed; where a report is refused for the sheet's fault, the line of that refusal is, if there is room for any
 -- lines, and too little memory is refused. A refusal's line is short. Assumes nothing.
-use mathlib.Core.Path.{_≡_, refl, sym, ap, subst, _∙_}
+use mathlib.Core.Path.{_≡_, refl, sym, ap, _∙_}
 use mathlib.Core.Bool.{Bool, true, false}
 use mathlib.Core.List.{List}
-use Prim.Native.Nat.{ℕ, _+_, _^_, _≤_, _<_}
+use Prim.Native.Nat.{ℕ, _+_, _*_, _^_, _≤_, _<_}
+use native.Mathlib.Nat.{mul-le-mul}
 use native.Mathlib.Decide.{decLt}
 use native.Mathlib.Omega.{arith}
 use lib.ListN.{length, take, length-take}
 use borrow.Author.Tests.{eq-eqb, ne-eqb, lt-ltb, le-ltb, le-leb, lt-leb}
-use Rattle.model.specs.Sheet.{Sheet}
+use Rattle.model.specs.Limits.{maxModules, maxHorizon, workNumbers}
 use Rattle.format.specs.Judgement.{Judgement, judgement}
 use Rattle.format.proofs.Judging.{refused-number}
+use Rattle.format.proofs.RoundTrip.{accepted-wellFormed}
 use Rattle.query.specs.Answer.{refused, given, Terms, GivenBy, AnsweredBy}
-use Rattle.lines.specs.Lines.{refusedLine, sheetLines, linesOf, lines}
+use Rattle.lines.specs.Lines.{refusedLine, linesOf, lines}
 use Rattle.writing.specs.Writing.{Put}
 use Rattle.writing.proofs.Lengths.{refused-length}
 use Rattle.report.specs.declared.Report.{Report}
 use Rattle.report.specs.declared.Report.the-variants.{Refused, Written}
 use Rattle.report.specs.Report.{outBytes, reportTerms, answerOf, Lines, Reported}
 use Rattle.report.proofs.Unique.{apart}
-use Rattle.printing.specs.Printed.{linesAnswer, OutLeft, Printed, Counted, Refusing}
+use Rattle.printing.specs.Printed.{linesAnswer, OutLeft, Printed, Counted}
+use Rattle.printing.specs.Refusing.{Refusing}
 
 -- The line of a refusal.
 
@@ -118,3 +121,16 @@ module _ (bytes w w′ t t′ o : List ℕ) where
     pub refused-printed : Printed bytes w w′ t t′ o o′ q
     unfolding lines
     refused-printed = let shown = refused-shown (judgement bytes) refl (r .answer) in record { answer = shown .0; out = shown .1; report = _; between = _; reported = r }
+
+-- Where the memory is enough for every sheet, something is printed for any bytes.
+pub enough-printed : {bytes w w′ t t′ o o′ : List ℕ} {r : Report} → workNumbers ≤ length w → maxModules * maxHorizon ≤ length t → outBytes ≤ length o
+    → Printed bytes w w′ t t′ o o′ r → answerOf r ≡ given (length (lines bytes))
+unfolding lines
+enough-printed {bytes} {w} {t = t} {o = o} work tape out printed = printed .answer ∙ judged (judgement bytes) refl
+  where
+    judged : (j : Judgement) → judgement bytes ≡ j → linesAnswer (length w) (length t) (length o) j ≡ given (length (linesOf j))
+    judged (Judgement.refused number place) e = rw (le-leb outBytes (length o) out)
+    judged (Judgement.accepted s) e =
+        let ok = accepted-wellFormed bytes s e in
+        let most : length (s .modules) * s .horizon ≤ maxModules * maxHorizon = mul-le-mul {n₂ = maxModules} {m₂ = maxHorizon} (ok .modules-most) (ok .horizon-most) in
+        rw (le-leb workNumbers (length w) work, le-leb (length (s .modules) * s .horizon) (length t) (omega arith), le-leb outBytes (length o) out)

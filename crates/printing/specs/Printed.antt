@@ -1,13 +1,12 @@
 -- What is printed for any bytes, and what that leaves of the lent memory (document 01, 'Program and examples'). Assumes nothing.
 use mathlib.Core.Path.{_≡_}
-use mathlib.Core.Bool.{Bool, true, false, cond, _||_}
+use mathlib.Core.Bool.{cond}
 use mathlib.Core.List.{List}
 use Prim.Native.Nat.{ℕ, _≤_}
-use lib.Dec.{leb, ltb, eqb}
+use lib.Dec.{leb}
 use lib.ListN.{length, take}
 use Rattle.format.specs.Judgement.{Judgement, judgement}
-use Rattle.query.specs.Answer.{Answer, refused, given, Terms}
-use Rattle.query.specs.Memory.{Stays}
+use Rattle.query.specs.Answer.{Answer, refused, given}
 use Rattle.lines.specs.Lines.{refusedLine, sheetLines, lines}
 use Rattle.writing.specs.Writing.{Put}
 use Rattle.report.specs.declared.Report.{Report}
@@ -25,7 +24,7 @@ abbrev pub OutLeft : List ℕ → List ℕ → List ℕ → Answer ℕ → Type 
 OutLeft xs o o′ (refused number place) = o′ ≡ o
 OutLeft xs o o′ (given n) = Put 0 n xs o o′
 
--- the working memory came as w and is left as w′, the tape memory as t and t′: both as the report leaves them
+-- the working memory came as w and is left as w′, the tape memory as t and t′: both as a report leaves them, which leaves the output memory as `between`
 pub record Printed (bytes w w′ t t′ o o′ : List ℕ) (r : Report) : Type 0 where
   pub answer : answerOf r ≡ linesAnswer (length w) (length t) (length o) (judgement bytes)
   pub out : OutLeft (lines bytes) o o′ (answerOf r)
@@ -37,11 +36,3 @@ pub record Printed (bytes w w′ t t′ o o′ : List ℕ) (r : Report) : Type 0
 abbrev pub Counted : List ℕ → Report → Type 0
 Counted o (Refused number place) = Unit {0}
 Counted o (Written n) = (n ≤ length o) × (n ≡ length (take n o))
-
--- a report was refused: whether nothing is printed, and what is done
-abbrev pub silent : ℕ → ℕ → Bool
-silent number out = eqb number 10 || ltb out outBytes
-
-pub record Refusing (number place : ℕ) (o o′ : List ℕ) (r : Report) : Type 0 where
-  pub answer : answerOf r ≡ cond (silent number (length o)) (refused number place) (given (length (refusedLine number place)))
-  pub out : OutLeft (refusedLine number place) o o′ (answerOf r)

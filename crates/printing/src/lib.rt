@@ -1,10 +1,8 @@
 // What the program prints for the bytes of a sheet: its report, or the line that says why it is refused.
-ghost use mathlib.Core.Path.{_≡_};
-ghost use Prim.Native.Nat.{_<_};
-ghost use lib.ListN.{length as count};
-ghost use Rattle.printing.specs.Printed.{Refusing, Printed, Counted};
+ghost use Rattle.printing.specs.Printed.{Printed, Counted};
+ghost use Rattle.printing.specs.Refusing.{Refusing};
+use judge::MEMORY_TOO_SMALL;
 use judge::Sheet;
-use report::MEMORY_TOO_SMALL;
 use report::OUT_BYTES;
 use report::Report;
 
@@ -26,8 +24,8 @@ fn put_refusal(out: &mut [u8], number: u8, place: usize) -> Report
     }
 }
 
-/// The lines for these bytes, from the beginning of the output memory on, and how many bytes they are. Too little memory is refused (10), after a
-/// sheet's fault where there is no room for its line.
+/// The lines for these bytes, from the beginning of the output memory on, and how many bytes they are: the report, or the line of a sheet's fault.
+/// Too little memory is refused with 10; where there is no room for the line of a sheet's fault, that fault is the refusal.
 pub fn put_lines(sheet: &[u8], work: &mut [u32], tape: &mut [u8], out: &mut [u8]) -> Report
     ensures { λ r. ⌜ Printed (now (sheet .entry)) (now (work .entry)) (now (work .exit)) (now (tape .entry)) (now (tape .exit)) (now (out .entry)) (now (out .exit)) r ⌝ }
     ensures { λ r. ⌜ Counted (now (out .exit)) r ⌝ }

@@ -1,4 +1,3 @@
-pub mod Summing
 pub mod Sums
 pub mod Pieces
 pub mod Giving

@@ -6,7 +6,7 @@ use native.Mathlib.Omega.{arith}
 use lib.ListN.{length, take}
 use lib.Seq.{take-length}
 use Rattle.model.specs.Lists.{sumOf}
-use Rattle.model.specs.Sheet.{Module, Sheet, moduleAt}
+use Rattle.model.specs.Sheet.{Sheet, absent, moduleAt}
 use Rattle.model.specs.Limits.{workNumbers}
 use Rattle.model.specs.WellFormed.{ModuleRule, WellFormed}
 use Rattle.model.specs.Demand.{moduleDemand}
@@ -18,15 +18,11 @@ use Rattle.layers.specs.Layer.{Told}
 use Rattle.sums.specs.Sums.{Fits, Summed}
 use Rattle.sums.proofs.Sums.{demand-bound}
 use Rattle.quick.specs.Sums.{ModuleAdded, SumsOf}
-use Rattle.quick.proofs.Summing.{sum-more, sum-most}
+use Rattle.model.proofs.Summing.{sum-more, sum-most}
 
 -- the sum of the demands in L ticks of the first k modules
 abbrev sumTo : Sheet → ℕ → ℕ → ℕ
 sumTo s k L = sumOf (λ m. moduleDemand m L) (take k (s .modules))
-
--- what a number that no module has names
-abbrev pub absent : Module
-absent = record { modes = [] }
 
 -- at each length up to n that sum stands
 pub record SumsTo (s : Sheet) (n k : ℕ) (w w′ : List ℕ) : Type 0 where

@@ -12,6 +12,7 @@ ghost use Rattle.quick.specs.Quick.{answerOf, QuickTested};
 ghost use Rattle.quick.specs.Sums.{ModuleAdded, SumsOf, Found};
 ghost use Rattle.quick.specs.Asking.{Asks, Sound};
 use judge::Judged;
+use judge::MEMORY_TOO_SMALL;
 use judge::Sheet;
 use sums::Over;
 use table::ModuleRow;
@@ -34,9 +35,6 @@ enum Asked {
     Refused { number: u8, place: usize },
     Sound { modules: usize, horizon: usize },
 }
-
-// The refusal number of too little memory.
-const MEMORY_TOO_SMALL: u8 = 10;
 
 // How many lengths are looked at first.
 const FEW: usize = 32;

@@ -19,6 +19,7 @@ ghost use Rattle.report.specs.Asking.{Sound, Asks};
 ghost use Rattle.report.specs.Parts.{said, witnessedLines, TapesThere, Printable, ExactWritten};
 use exact::Exact;
 use judge::Judged;
+use judge::MEMORY_TOO_SMALL;
 use quick::Quick;
 
 /// What a report answers: the refusal's number and place, or how many bytes are written.
@@ -42,9 +43,7 @@ enum Asked {
     },
 }
 
-// The refusal number of too little memory, and the bytes that hold any report.
-pub const MEMORY_TOO_SMALL: u8 = 10;
-
+// The bytes that hold any report.
 pub const OUT_BYTES: usize = 16384;
 
 // Whether the memory of each kind is enough.

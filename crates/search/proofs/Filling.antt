@@ -4,7 +4,7 @@ use mathlib.Core.List.{List}
 use Prim.Native.Nat.{ℕ, pred, _+_, _-_, _≤_, _<_}
 use native.Mathlib.Omega.{arith}
 use lib.ListN.{length}
-use Rattle.model.specs.Sheet.{Sheet, moduleAt}
+use Rattle.model.specs.Sheet.{Sheet, absent, moduleAt}
 use Rattle.model.specs.Limits.{workNumbers}
 use Rattle.model.specs.WellFormed.{ModuleRule, WellFormed}
 use Rattle.model.specs.Run.{first}
@@ -14,14 +14,13 @@ use Rattle.model.proofs.Runs.{first-listed}
 use Rattle.model.proofs.Bounds.{value-bound}
 use Rattle.layers.specs.declared.Shape.{Shape}
 use Rattle.layers.specs.Layer.{Told}
-use Rattle.quick.proofs.Summing.{sum-more, sum-most}
+use Rattle.model.proofs.Summing.{sum-more, sum-most}
 use Rattle.memory.specs.Map.{layerFrom}
 use Rattle.cells.specs.Cells.{Tile, CellsCleared}
 use Rattle.cells.proofs.Rows.{row-inside}
 use Rattle.tiles.specs.Tiles.{CellsFit, ModuleAdded}
 use Rattle.tiles.proofs.Rows.{question-same, cell-same}
 use Rattle.tiles.proofs.Parts.{within-none, within-wider, within-then}
-use Rattle.quick.proofs.Sums.{absent}
 use Rattle.search.specs.Search.{Kept, CellsOf, Filled}
 use Rattle.search.proofs.Keeping.{same}
 

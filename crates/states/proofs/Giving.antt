@@ -9,21 +9,19 @@ use lib.Seq.{drop-drop}
 use borrow.Author.Tests.{ltb-true, leb-true}
 use borrow.Rule.Slice.PartMut.{putMid, midOf, mid-len, same-len-mid, drop-put}
 use Rattle.model.specs.Sheet.{moduleAt}
-use Rattle.model.specs.Limits.{maxHorizon, maxModules, workNumbers}
+use Rattle.model.specs.Limits.{maxHorizon, workNumbers}
 use Rattle.model.specs.Run.{at, modeAt}
 use Rattle.model.specs.Demand.{value, moduleDemand}
 use Rattle.format.specs.Judgement.{sheetIn, Accepted}
 use Rattle.format.proofs.RoundTrip.{accepted-wellFormed}
+use Rattle.memory.specs.Map.{layerNumbers}
 use Rattle.query.specs.Answer.{Meets, given}
 use Rattle.query.specs.Query.{stateTerms, moduleTerms, StateAnswer, ModuleAnswer}
 use Rattle.query.specs.Memory.{Stays}
 use Rattle.query.proofs.Answers.{state-answer, module-answer}
 use Rattle.query.proofs.Meeting.{met-given}
 
--- no more modules than rows, and no length past the layers
-pub few-modules : (bytes : List ℕ) → Accepted bytes → length (sheetIn bytes .modules) ≤ maxModules
-few-modules bytes accepted = accepted-wellFormed bytes (sheetIn bytes) accepted .modules-most
-
+-- no length past the layers
 short-horizon : (bytes : List ℕ) → Accepted bytes → sheetIn bytes .horizon ≤ maxHorizon
 short-horizon bytes accepted = accepted-wellFormed bytes (sheetIn bytes) accepted .horizon-most
 
@@ -68,10 +66,10 @@ module _ (bytes : List ℕ) (k L work : ℕ) where
   module-is {v} met e = subst (ModuleAnswer bytes k L work) (met-given (moduleTerms k L work) bytes met _ ∙ ap given (sym e)) (module-answer bytes k L work)
 
 -- The lent memory with another layer in its first part.
-pub stays-layer : (w ys : List ℕ) → workNumbers ≤ length w → length ys ≡ length (midOf 0 (8192 - 0) w) → Stays workNumbers w (putMid 0 (8192 - 0) w ys)
+pub stays-layer : (w ys : List ℕ) → workNumbers ≤ length w → length ys ≡ length (midOf 0 (layerNumbers - 0) w) → Stays workNumbers w (putMid 0 (layerNumbers - 0) w ys)
 stays-layer w ys room e =
-    let l : length ys ≡ 8192 = e ∙ mid-len 0 8192 w (omega arith) in
+    let l : length ys ≡ layerNumbers = e ∙ mid-len 0 layerNumbers w (omega arith) in
     record {
-      len = same-len-mid 0 (8192 - 0) w ys e;
-      above = sym (drop-drop 8192 8192 (putMid 0 (8192 - 0) w ys)) ∙ ap (drop 8192) (drop-put 0 8192 w ys (omega arith) (omega arith) l) ∙ drop-drop 8192 8192 w;
+      len = same-len-mid 0 (layerNumbers - 0) w ys e;
+      above = sym (drop-drop layerNumbers layerNumbers (putMid 0 (layerNumbers - 0) w ys)) ∙ ap (drop layerNumbers) (drop-put 0 layerNumbers w ys (omega arith) (omega arith) l) ∙ drop-drop layerNumbers layerNumbers w;
     }

@@ -14,6 +14,8 @@ ghost use Rattle.states.specs.Asking.{Asks, asked, isState, StateMet, Mo
 use demand::Amount;
 use demand::Demand;
 use judge::Judged;
+use judge::MEMORY_TOO_SMALL;
+use judge::OUT_OF_RANGE;
 use judge::Sheet;
 use memory::LAYER_NUMBERS;
 use modules::Engine;
@@ -23,11 +25,6 @@ enum Asked {
     Refused { number: u8, place: usize },
     Sound,
 }
-
-// The refusal numbers of a call.
-const OUT_OF_RANGE: u8 = 9;
-
-const MEMORY_TOO_SMALL: u8 = 10;
 
 // The arguments of a call go before its memory.
 fn tested(in_range: bool, work: usize) -> Asked

@@ -7,6 +7,7 @@ use native.Mathlib.Omega.{arith}
 use lib.ListN.{length, take, set, length-set}
 use lib.Seq.{length-take-le, take-at, drop-at, drop-set-lt, getD-set-same, getD-set-other}
 use borrow.Rule.Slice.PartMut.{putMid, postOf, mid-len, same-len-mid}
+use Rattle.model.specs.Limits.{workNumbers}
 use Rattle.model.specs.Lists.{maxBelow}
 use Rattle.model.specs.Sheet.{Module}
 use Rattle.model.specs.WellFormed.{ModuleRule}
@@ -21,7 +22,7 @@ use Rattle.layers.proofs.Turns.{maxBelow-le}
 use Rattle.layers.proofs.Bounds.{states-bound}
 use Rattle.layers.proofs.Parts.{cleared-at, back-below, back-above}
 use Rattle.layers.proofs.Layers.{states-told, layer-start, layer-largest}
-use Rattle.memory.specs.Map.{layerPart}
+use Rattle.memory.specs.Map.{layerNumbers, layerFrom, marksFrom, layerPart}
 use Rattle.sums.specs.Sums.{Layered, Reached, Demands, Added, Beside, Summed}
 
 -- The demand of a module is at most 16 for each tick.
@@ -33,27 +34,27 @@ demand-bound m ok L = maxBelow-le _ (16 * L) (length (m .modes)) (λ k h. maxBel
 -- The layer's part, lent and back with ys in it.
 
 abbrev back : List ℕ → List ℕ → List ℕ
-back w ys = putMid 2001 8192 w ys
+back w ys = putMid layerFrom layerNumbers w ys
 
-pub part-size : (w : List ℕ) → 16384 ≤ length w → length (layerPart w) ≡ 8192
-part-size w room = mid-len 2001 10193 w (omega arith)
+pub part-size : (w : List ℕ) → workNumbers ≤ length w → length (layerPart w) ≡ layerNumbers
+part-size w room = mid-len layerFrom marksFrom w (omega arith)
 
-module _ (w ys : List ℕ) (room : 16384 ≤ length w) where
+module _ (w ys : List ℕ) (room : workNumbers ≤ length w) where
   -- the sums stand before it
   back-row : (x : ℕ) → x ≤ 2000 → look (back w ys) x ≡ look w x
-  back-row x h = back-below w 2001 8192 (omega arith) ys x (omega arith)
+  back-row x h = back-below w layerFrom layerNumbers (omega arith) ys x (omega arith)
 
   module _ (e : length ys ≡ length (layerPart w)) where
     back-length : length (back w ys) ≡ length w
-    back-length = same-len-mid 2001 8192 w ys e
+    back-length = same-len-mid layerFrom layerNumbers w ys e
 
-    back-past : (x : ℕ) → 10193 ≤ x → look (back w ys) x ≡ look w x
-    back-past = back-above w 2001 8192 (omega arith) ys (e ∙ part-size w room)
+    back-past : (x : ℕ) → marksFrom ≤ x → look (back w ys) x ≡ look w x
+    back-past = back-above w layerFrom layerNumbers (omega arith) ys (e ∙ part-size w room)
 
     back-part : layerPart (back w ys) ≡ ys
     back-part =
-        let before : length (take 2001 w) ≡ 2001 = length-take-le 2001 w (omega arith) in
-        ap (take 8192) (drop-at (take 2001 w) (ys ++ postOf 2001 8192 w) 2001 before) ∙ take-at ys (postOf 2001 8192 w) 8192 (e ∙ part-size w room)
+        let before : length (take layerFrom w) ≡ layerFrom = length-take-le layerFrom w (omega arith) in
+        ap (take layerNumbers) (drop-at (take layerFrom w) (ys ++ postOf layerFrom layerNumbers w) layerFrom before) ∙ take-at ys (postOf layerFrom layerNumbers w) layerNumbers (e ∙ part-size w room)
 
 module _ (s : Shape) (numbers : List ℕ) where
   -- A module that is told has at most 8 modes and 8,192 states.
@@ -61,10 +62,10 @@ module _ (s : Shape) (numbers : List ℕ) where
   pub told-modes : Tells s numbers → s .modes ≤ 8
   told-modes t = omega (arith, t .told .modes, t .rule .most)
 
-  pub told-states : Tells s numbers → total (s .periods) (s .modes) ≤ 8192
+  pub told-states : Tells s numbers → total (s .periods) (s .modes) ≤ layerNumbers
   told-states t = omega (arith, states-told (t .owner) s numbers (t .told), states-bound (t .owner) (t .rule))
 
-  pub told-place : Tells s numbers → (k d : ℕ) → k < s .modes → d < period s k → total (s .periods) k + d < 8192
+  pub told-place : Tells s numbers → (k d : ℕ) → k < s .modes → d < period s k → total (s .periods) k + d < layerNumbers
   told-place t k d h i = omega (arith, sum-before (look (s .periods)) k (s .modes) h, told-states t)
 
   -- The layers one after another.
@@ -102,20 +103,20 @@ module _ (s : Shape) (numbers : List ℕ) where
   -- The row of sums.
 
   -- the first layer, in its part
-  pub part-start : (n : ℕ) (w ys : List ℕ) → Tells s numbers → 16384 ≤ length w → n ≡ total (s .periods) (s .modes) → Cleared n (layerPart w) ys → Layered s numbers 0 (layerPart (back w ys))
+  pub part-start : (n : ℕ) (w ys : List ℕ) → Tells s numbers → workNumbers ≤ length w → n ≡ total (s .periods) (s .modes) → Cleared n (layerPart w) ys → Layered s numbers 0 (layerPart (back w ys))
   part-start n w ys t room e c m ok told =
       let fits : n ≤ length (layerPart w) = omega (arith, told-states t, part-size w room) in
       subst (Layer m 0) (sym (back-part w ys room (c .len))) (reached-start (layerPart w) ys n e fits c .layer m ok told)
 
   -- no sum is too large
-  pub sum-fits : (L d : ℕ) (w ys : List ℕ) → Tells s numbers → L < 2000 → 16384 ≤ length w → look w (L + 1) ≤ 7 * 32000 → Demands s numbers (L + 1) d → look (back w ys) (L + 1) + d < 2 ^ 32
+  pub sum-fits : (L d : ℕ) (w ys : List ℕ) → Tells s numbers → L < 2000 → workNumbers ≤ length w → look w (L + 1) ≤ 7 * 32000 → Demands s numbers (L + 1) d → look (back w ys) (L + 1) + d < 2 ^ 32
   sum-fits L d w ys t h room low demand = omega (arith, back-row w ys room (L + 1) (omega arith), demands-bound t (L + 1) d demand)
 
-  pub added : (L d : ℕ) (w ys : List ℕ) → L < 2000 → 16384 ≤ length w → length ys ≡ length (layerPart w) → Layered s numbers (L + 1) ys → Demands s numbers (L + 1) d
+  pub added : (L d : ℕ) (w ys : List ℕ) → L < 2000 → workNumbers ≤ length w → length ys ≡ length (layerPart w) → Layered s numbers (L + 1) ys → Demands s numbers (L + 1) d
       → Added s numbers L w (set (back w ys) (L + 1) (look (back w ys) (L + 1) + d))
   added L d w ys h room e layer demand = record {
     len = length-set (back w ys) (L + 1) v ∙ back-length w ys room e;
-    layer = λ m ok told. subst (Layer m (L + 1)) (sym (ap (take 8192) (drop-set-lt 2001 (back w ys) (L + 1) v (omega arith)) ∙ back-part w ys room e)) (layer m ok told);
+    layer = λ m ok told. subst (Layer m (L + 1)) (sym (ap (take layerNumbers) (drop-set-lt layerFrom (back w ys) (L + 1) v (omega arith)) ∙ back-part w ys room e)) (layer m ok told);
     sum = λ m ok told. getD-set-same (back w ys) (L + 1) v 0 (omega (arith, back-length w ys room e)) ∙ omega (arith, back-row w ys room (L + 1) (omega arith), demand m ok told);
     others = λ x l n. getD-set-other (back w ys) (L + 1) x v 0 n ∙ back-row w ys room x l;
     above = λ x l. getD-set-other (back w ys) (L + 1) x v 0 (omega arith) ∙ back-past w ys room e x l;
@@ -151,7 +152,7 @@ module _ (s : Shape) (numbers : List ℕ) where
           rw last (omega (arith, new .sum m ok told, old .later (n + 1) (omega arith) (omega arith)))
 
   -- from the numbers before the layer's part was cleared
-  pub summed-end : (n H : ℕ) (w ys w′ : List ℕ) → n ≡ H → H ≤ 2000 → 16384 ≤ length w → length ys ≡ length (layerPart w) → Summed s numbers n (back w ys) w′ → Summed s numbers H w w′
+  pub summed-end : (n H : ℕ) (w ys w′ : List ℕ) → n ≡ H → H ≤ 2000 → workNumbers ≤ length w → length ys ≡ length (layerPart w) → Summed s numbers n (back w ys) w′ → Summed s numbers H w w′
   summed-end n H w ys w′ same h room e done = record {
     sums = λ m ok told L i l. omega (arith, done .sums m ok told L i (omega arith), back-row w ys room L (omega arith));
     beside = record {

@@ -3,6 +3,7 @@ use mathlib.Core.Path.{_≡_}
 use mathlib.Core.List.{List}
 use Prim.Native.Nat.{ℕ, _+_, _*_, _≤_, _<_}
 use lib.ListN.{length}
+use Rattle.model.specs.Limits.{maxHorizon}
 use Rattle.model.specs.Sheet.{Module}
 use Rattle.model.specs.WellFormed.{ModuleRule}
 use Rattle.model.specs.Demand.{moduleDemand}
@@ -39,14 +40,14 @@ pub record Added (s : Shape) (numbers : List ℕ) (L : ℕ) (w w′ : List ℕ) 
   pub len : length w′ ≡ length w
   pub layer : Layered s numbers (L + 1) (layerPart w′)
   pub sum : (m : Module) → ModuleRule m → Told m s numbers → look w′ (L + 1) ≡ look w (L + 1) + moduleDemand m (L + 1)
-  pub others : (x : ℕ) → x ≤ 2000 → (x ≡ L + 1 → ⊥) → look w′ x ≡ look w x
+  pub others : (x : ℕ) → x ≤ maxHorizon → (x ≡ L + 1 → ⊥) → look w′ x ≡ look w x
   pub above : (x : ℕ) → marksFrom ≤ x → look w′ x ≡ look w x
 
 -- what neither the sums from 1 to n nor the layer's part hold is as it was
 pub record Beside (n : ℕ) (w w′ : List ℕ) : Type 0 where
   pub len : length w′ ≡ length w
   pub first : look w′ 0 ≡ look w 0
-  pub later : (x : ℕ) → n < x → x ≤ 2000 → look w′ x ≡ look w x
+  pub later : (x : ℕ) → n < x → x ≤ maxHorizon → look w′ x ≡ look w x
   pub above : (x : ℕ) → marksFrom ≤ x → look w′ x ≡ look w x
 
 -- to the sums from 1 to n the demands of whichever module the numbers tell are added

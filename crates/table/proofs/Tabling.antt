@@ -8,7 +8,7 @@ use native.Mathlib.Numerals.{add-one}
 use native.Mathlib.Omega.{arith}
 use lib.ListN.{length, getD, set, take, replicate, length-set, length-replicate, getD-replicate}
 use lib.Seq.{getD-set-same, getD-set-other, getD-take, take-length, take-nil}
-use Rattle.model.specs.Sheet.{Module, moduleAt}
+use Rattle.model.specs.Sheet.{Module, absent, moduleAt}
 use Rattle.format.specs.Judgement.{sheetIn, Accepted}
 use Rattle.format.specs.Refusal.{AreBytes}
 use Rattle.format.specs.Place.{modulePlace}
@@ -19,9 +19,6 @@ use Rattle.place.proofs.Steps.{first-module}
 use Rattle.table.specs.Rows.{RowOf, noRow, RowsOf}
 use Rattle.table.specs.declared.ModuleRow.{ModuleRow}
 use Rattle.table.proofs.Filling.{row-blank}
-
-abbrev none : Module
-none = record { modes = [] }
 
 -- one more of a list, where it is not asked for
 take-other : {A : Type 0} (d : A) (xs : List A) (k x : ℕ) → (x ≡ k → ⊥) → getD (take (suc k) xs) x d ≡ getD (take k xs) x d
@@ -44,7 +41,7 @@ pub record Tabled (bs : List ℕ) (rows : List ModuleRow) (p k : ℕ) : Type 0 w
   pub place : p ≡ modulePlace (sheetIn bs) k
   pub within : p < length bs
   pub size : length rows ≡ 8
-  pub each : (x : ℕ) → x < 8 → RowOf (getD (take k (sheetIn bs .modules)) x none) (getD rows x noRow)
+  pub each : (x : ℕ) → x < 8 → RowOf (getD (take k (sheetIn bs .modules)) x absent) (getD rows x noRow)
 
 pub tabled-none : (bs : List ℕ) → Accepted bs → AreBytes bs → Tabled bs (replicate 8 blank) 4 0
 tabled-none bs accepted bytes =
@@ -92,11 +89,11 @@ module _ {bs : List ℕ} {rows : List ModuleRow} {p k : ℕ} (t : Tabled bs rows
         ms : List Module
         ms = sheetIn bs .modules
 
-        at : (x : ℕ) → x < 8 → Dec (x ≡ k) → RowOf (getD (take (k + 1) ms) x none) (getD (set rows k row) x noRow)
+        at : (x : ℕ) → x < 8 → Dec (x ≡ k) → RowOf (getD (take (k + 1) ms) x absent) (getD (set rows k row) x noRow)
         at x l (yes q) =
             let inside : k < length rows = omega (arith, t .size) in
-            rw (q, getD-take (k + 1) ms k none (omega arith), getD-set-same rows k row noRow inside) (this k there)
-        at x l (no q) = rw (add-one k, take-other none ms k x q, getD-set-other rows k x row noRow q) (t .each x l)
+            rw (q, getD-take (k + 1) ms k absent (omega arith), getD-set-same rows k row noRow inside) (this k there)
+        at x l (no q) = rw (add-one k, take-other absent ms k x q, getD-set-other rows k x row noRow q) (t .each x l)
 
   pub tabled-all : (getD bs p 0 ≡ 77 → ⊥) → RowsOf (sheetIn bs) rows
   tabled-all q = record { size = t .size; each = λ x l. rw (take-length ms) at (rw (passed (ℕ-discrete k (length ms))) at (t .each x l)) }

@@ -38,7 +38,7 @@ switchPeriodAt m i = periodTo (i % 8) (modeAt m (i / 8) .switches)
 abbrev pub switchListedAt : Module → ℕ → Bool
 switchListedAt m i = named (i % 8) (modeAt m (i / 8) .switches)
 
--- the rows of the module m
+-- the row of the module m
 pub record RowOf (m : Module) (r : ModuleRow) : Type 0 where
   pub periods : Row 0 8 (periodAt m) (r .periods)
   pub every : Row 0 64 (switchPeriodAt m) (r .every)

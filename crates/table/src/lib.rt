@@ -19,7 +19,7 @@ pub struct Tasks {
     pub numbers: [u16; 512],
 }
 
-/// The rows of a module: the periods of its modes, 0 past them; and at 8 * j + t of the switch of the mode j to the mode t its period and whether there is one,
+/// The row of a module: the periods of its modes, 0 past them; and at 8 * j + t of the switch of the mode j to the mode t its period and whether there is one,
 /// 0 and false where there is none.
 pub struct ModuleRow {
     pub periods: [u16; 8],
@@ -244,7 +244,7 @@ fn switch_listed_row(sheet: &[u8], p: usize) -> [bool; 64]
     row
 }
 
-// All rows of the module at p.
+// The whole row of the module at p.
 fn row_at(sheet: &[u8], p: usize) -> ModuleRow
     requires { ⌜ Accepted (now sheet) ⌝ }
     requires { ⌜ SomeModule (sheetIn (now sheet)) p ⌝ }
@@ -260,7 +260,7 @@ fn row_at(sheet: &[u8], p: usize) -> ModuleRow
     }
 }
 
-/// The rows of the module k.
+/// The row of the module k.
 pub fn module_row(sheet: &[u8], k: usize) -> ModuleRow
     requires { ⌜ Accepted (now sheet) ⌝ }
     requires { ⌜ k < length (sheetIn (now sheet) .modules) ⌝ }
@@ -269,7 +269,7 @@ pub fn module_row(sheet: &[u8], k: usize) -> ModuleRow
     row_at(sheet, place::module_place(sheet, k))
 }
 
-/// The rows of each module; past the modules they are blank.
+/// The rows of all modules, one for each; past the modules they are blank.
 pub fn module_rows(sheet: &[u8]) -> [ModuleRow; 8]
     requires { ⌜ Accepted (now sheet) ⌝ }
     ensures { λ r. ⌜ RowsOf (sheetIn (now (sheet .entry))) r ⌝ }

@@ -5,13 +5,14 @@ use Prim.Native.Nat.{ℕ, pred, _+_, _-_, _≤_, _<_}
 use native.Mathlib.Omega.{arith}
 use lib.ListN.{length, replicate, length-replicate, getD-replicate}
 use borrow.Rule.Slice.PartMut.{putMid, midOf, mid-len}
+use Rattle.model.specs.Limits.{workNumbers}
 use Rattle.model.specs.Sheet.{Module}
 use Rattle.layers.specs.declared.Shape.{Shape}
 use Rattle.layers.specs.Step.{look, total, Cleared}
 use Rattle.layers.specs.Layer.{Layer, Tells, Each, Advanced}
 use Rattle.layers.proofs.Layers.{layer-start}
 use Rattle.layers.proofs.Parts.{part-length}
-use Rattle.memory.specs.Map.{layerPart, marksPart}
+use Rattle.memory.specs.Map.{layerNumbers, markNumbers, layerFrom, marksFrom, cellsFrom, layerPart, marksPart}
 use Rattle.sums.specs.Sums.{Layered}
 use Rattle.sums.proofs.Sums.{part-size, told-states, layered-more}
 use Rattle.marks.specs.Marks.{Marks}
@@ -23,31 +24,31 @@ use Rattle.tiles.proofs.Parts.{part-look, part-before, part-behind, wit
 
 -- The marks are made, then the layer is cleared.
 
-pub begun : (s : Shape) (last n : ℕ) (w ys zs : List ℕ) → 16384 ≤ length w → n ≡ total (s .periods) (s .modes)
-    → Entered s last (marksPart w) ys → Cleared n (layerPart (putMid 10193 504 w ys)) zs → Begun s last w (putMid 2001 8192 (putMid 10193 504 w ys) zs)
+pub begun : (s : Shape) (last n : ℕ) (w ys zs : List ℕ) → workNumbers ≤ length w → n ≡ total (s .periods) (s .modes)
+    → Entered s last (marksPart w) ys → Cleared n (layerPart (putMid marksFrom markNumbers w ys)) zs → Begun s last w (putMid layerFrom layerNumbers (putMid marksFrom markNumbers w ys) zs)
 begun s last n w ys zs room e entered cleared = record {
-  within = within-then (within-wider marking 2001 10697 (omega arith) (omega arith)) (within-wider clearing 2001 10697 (omega arith) (omega arith));
-  layer = rw (← e, put-part 2001 8192 marked zs (omega (arith, room′)) (cleared .len ∙ part-size marked room′), ← part-before marking 2001 8192 (omega arith)) cleared;
-  marks = subst (Entered s last (marksPart w)) (sym (part-behind clearing 10193 504 (omega arith) ∙ put-part 10193 504 w ys (omega arith) size)) entered;
+  within = within-then (within-wider marking layerFrom cellsFrom (omega arith) (omega arith)) (within-wider clearing layerFrom cellsFrom (omega arith) (omega arith));
+  layer = rw (← e, put-part layerFrom layerNumbers marked zs (omega (arith, room′)) (cleared .len ∙ part-size marked room′), ← part-before marking layerFrom layerNumbers (omega arith)) cleared;
+  marks = subst (Entered s last (marksPart w)) (sym (part-behind clearing marksFrom markNumbers (omega arith) ∙ put-part marksFrom markNumbers w ys (omega arith) size)) entered;
 }
   where
     marked : List ℕ
-    marked = putMid 10193 504 w ys
+    marked = putMid marksFrom markNumbers w ys
 
-    size : length ys ≡ 504
-    size = entered .len ∙ part-length w 10193 504 (omega arith)
+    size : length ys ≡ markNumbers
+    size = entered .len ∙ part-length w marksFrom markNumbers (omega arith)
 
-    marking : Within 10193 10697 w marked
-    marking = put-within 10193 504 w ys (omega arith) size
+    marking : Within marksFrom cellsFrom w marked
+    marking = put-within marksFrom markNumbers w ys (omega arith) size
 
-    room′ : 16384 ≤ length marked
+    room′ : workNumbers ≤ length marked
     room′ = omega (arith, marking .len)
 
-    clearing : Within 2001 10193 marked (putMid 2001 8192 marked zs)
-    clearing = put-within 2001 8192 marked zs (omega (arith, room′)) (cleared .len ∙ part-size marked room′)
+    clearing : Within layerFrom marksFrom marked (putMid layerFrom layerNumbers marked zs)
+    clearing = put-within layerFrom layerNumbers marked zs (omega (arith, room′)) (cleared .len ∙ part-size marked room′)
 
 -- the numbers of the states are those for no tick
-pub begun-layer : {s : Shape} {last : ℕ} {w w′ : List ℕ} (numbers : List ℕ) → 16384 ≤ length w → Begun s last w w′ → Layered s numbers 0 (layerPart w′)
+pub begun-layer : {s : Shape} {last : ℕ} {w w′ : List ℕ} (numbers : List ℕ) → workNumbers ≤ length w → Begun s last w w′ → Layered s numbers 0 (layerPart w′)
 begun-layer {s} {last} {w} {w′} numbers room start m ok told =
     layer-start m s numbers told (layerPart w) (layerPart w′) (omega (arith, part-size w room, told-states s numbers (record { owner = m; rule = ok; told = told }))) (start .layer)
 
@@ -63,7 +64,7 @@ module _ (width : ℕ) (few : width ≤ 512) where
   none-look : (i : ℕ) → i < length (none width) → look (none width) i ≡ 0
   none-look i h = part-look 0 (width - 0) (replicate 512 0) i (omega (arith, none-length)) ∙ getD-replicate 512 (0 + i) 0 0 (omega (arith, none-length))
 
-  pub progress-start : (s : Shape) (numbers : List ℕ) (lo last : ℕ) (w w′ : List ℕ) → 16384 ≤ length w → last ≡ pred (lo + width) → Begun s last w w′ → Each s numbers (λ m. Progress m lo 0 w′ (none width))
+  pub progress-start : (s : Shape) (numbers : List ℕ) (lo last : ℕ) (w w′ : List ℕ) → workNumbers ≤ length w → last ≡ pred (lo + width) → Begun s last w w′ → Each s numbers (λ m. Progress m lo 0 w′ (none width))
   progress-start s numbers lo last w w′ room e start m ok told = record {
     layer = begun-layer numbers room start m ok told;
     marks = rw (none-length, sym e) (start .marks .marks m numbers ok told);
@@ -72,21 +73,21 @@ module _ (width : ℕ) (few : width ≤ 512) where
 
 -- The layer's part has advanced.
 
-module _ (s : Shape) (numbers : List ℕ) (l : ℕ) (w ys : List ℕ) (room : 16384 ≤ length w) (advanced : Advanced s numbers l (layerPart w) ys) where
-  size : length ys ≡ 8192
+module _ (s : Shape) (numbers : List ℕ) (l : ℕ) (w ys : List ℕ) (room : workNumbers ≤ length w) (advanced : Advanced s numbers l (layerPart w) ys) where
+  size : length ys ≡ layerNumbers
   size = advanced .len ∙ part-size w room
 
   abbrev w′ : List ℕ
-  w′ = putMid 2001 8192 w ys
+  w′ = putMid layerFrom layerNumbers w ys
 
-  pub advancing : Within 2001 10193 w w′
-  advancing = put-within 2001 8192 w ys (omega arith) size
+  pub advancing : Within layerFrom marksFrom w w′
+  advancing = put-within layerFrom layerNumbers w ys (omega arith) size
 
   pub next-layer : Layered s numbers l (layerPart w) → Layered s numbers (l + 1) (layerPart w′)
-  next-layer layer m ok told = subst (Layer m (l + 1)) (sym (put-part 2001 8192 w ys (omega arith) size)) (layered-more s numbers l (layerPart w) ys advanced layer m ok told)
+  next-layer layer m ok told = subst (Layer m (l + 1)) (sym (put-part layerFrom layerNumbers w ys (omega arith) size)) (layered-more s numbers l (layerPart w) ys advanced layer m ok told)
 
   pub next-marks : (m : Module) (last : ℕ) → Marks m last (marksPart w) → Marks m last (marksPart w′)
-  next-marks m last = subst (Marks m last) (sym (part-behind advancing 10193 504 (omega arith)))
+  next-marks m last = subst (Marks m last) (sym (part-behind advancing marksFrom markNumbers (omega arith)))
 
   module _ (lo : ℕ) (fig : List ℕ) (before : Each s numbers (λ m. Progress m lo l w fig)) where
     -- the module that is told has what its figures for one tick more need
@@ -115,9 +116,9 @@ module _ (s : Shape) (numbers : List ℕ) (l : ℕ) (w ys : List ℕ) (room : 16
 
 -- Where only cells have changed, a module has come to the same.
 
-pub progress-kept : {m : Module} {lo n a e : ℕ} {w w′ fig : List ℕ} → 10697 ≤ a → Within a e w w′ → Progress m lo n w fig → Progress m lo n w′ fig
+pub progress-kept : {m : Module} {lo n a e : ℕ} {w w′ fig : List ℕ} → cellsFrom ≤ a → Within a e w w′ → Progress m lo n w fig → Progress m lo n w′ fig
 progress-kept {m} {lo} {n} {a} {e} {w} {w′} {fig} h rest before = record {
-  layer = subst (Layer m n) (sym (part-before rest 2001 8192 (omega arith))) (before .layer);
-  marks = subst (Marks m (pred (lo + length fig))) (sym (part-before rest 10193 504 (omega arith))) (before .marks);
+  layer = subst (Layer m n) (sym (part-before rest layerFrom layerNumbers (omega arith))) (before .layer);
+  marks = subst (Marks m (pred (lo + length fig))) (sym (part-before rest marksFrom markNumbers (omega arith))) (before .marks);
   figures = before .figures;
 }

@@ -4,9 +4,6 @@ use Rattle.cells.proofs.Clearing.{cells-cleared}
 use Rattle.cells.proofs.clear_cells.Statement.{statement}
 use Rattle.cells.proofs.clear_cells.Tie as tie
 
-add-clear : tie.Need-add-clear
-add-clear c = search needs
-
 sub-clear : tie.Need-sub-clear
 sub-clear c = search needs
 
@@ -29,7 +26,6 @@ pub clear-cells-spec : {M : Type 1} → statement M
 clear-cells-spec =
     tie.close
     (tie.spec
-    add-clear
     sub-clear
     part-clear-start
     part-clear-end

@@ -3,11 +3,12 @@ use Prim.Native.Nat.{_*_, _≤_}
 use native.Mathlib.Nat.{mul-le-mul}
 use native.Mathlib.Omega.{arith}
 use borrow.Author.Tests.{le-leb, lt-leb}
+use Rattle.model.specs.Limits.{workNumbers}
 use Rattle.exact.proofs.is_enough.Statement.{statement}
 use Rattle.exact.proofs.is_enough.Tie as tie
 
 returns : tie.Need-returns
-returns c = rw (lt-leb 16384 (c .before .args .work) (c .if1 .taken))
+returns c = rw (lt-leb workNumbers (c .before .args .work) (c .if1 .taken))
 
 mul-if2 : tie.Need-mul-if2
 mul-if2 c =
@@ -18,12 +19,12 @@ mul-if2 c =
 returns-2 : tie.Need-returns-2
 returns-2 c =
     let a = c .before .before .args in
-    rw (le-leb 16384 (a .work) (c .before .if1 .left), lt-leb (a .modules * a .horizon) (a .tape) (c .if2 .taken))
+    rw (le-leb workNumbers (a .work) (c .before .if1 .left), lt-leb (a .modules * a .horizon) (a .tape) (c .if2 .taken))
 
 returns-3 : tie.Need-returns-3
 returns-3 c =
     let a = c .before .before .args in
-    rw (le-leb 16384 (a .work) (c .before .if1 .left), le-leb (a .modules * a .horizon) (a .tape) (c .if2 .left))
+    rw (le-leb workNumbers (a .work) (c .before .if1 .left), le-leb (a .modules * a .horizon) (a .tape) (c .if2 .left))
 
 pub is-enough-spec : {M : Type 1} → statement M
 is-enough-spec = tie.close (tie.spec returns mul-if2 returns-2 returns-3)

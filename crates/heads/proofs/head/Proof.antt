@@ -4,6 +4,7 @@ use native.Mathlib.Nat.{mod-lt}
 use native.Mathlib.Omega.{arith}
 use borrow.Author.Tests.{eq-eqb, ne-eqb}
 use borrow.Author.Needs.{needs}
+use Rattle.memory.specs.Map.{headsFrom}
 use Rattle.heads.specs.Heads.{headOf}
 use Rattle.heads.proofs.head.Statement.{statement}
 use Rattle.heads.proofs.head.Tie as tie
@@ -29,7 +30,7 @@ returns c = (rw (eq-eqb _ _ (c .if1 .taken)), mod-lt _ (omega arith))
 
 returns-2 : tie.Need-returns-2
 unfolding headOf
-returns-2 c = let a = c .before .before .args in (rw (ne-eqb _ _ (c .if1 .left)), omega (arith, c .before .shared-slice-known .given (8192 + (4 * a .t + a .j / 2))))
+returns-2 c = let a = c .before .before .args in (rw (ne-eqb _ _ (c .if1 .left)), omega (arith, c .before .shared-slice-known .given (headsFrom + (4 * a .t + a .j / 2))))
 
 pub head-spec : {M : Type 1} → statement M
 head-spec =

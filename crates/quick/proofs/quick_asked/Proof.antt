@@ -3,6 +3,7 @@ use mathlib.Core.Path.{refl}
 use denote.Ref.{now}
 use borrow.Author.Needs.{needs}
 use borrow.Author.Tests.{le-leb, lt-leb}
+use Rattle.model.specs.Limits.{workNumbers}
 use Rattle.query.specs.Query.{quickTerms}
 use Rattle.query.proofs.Meeting.{fault-refused, memory-refused}
 use Rattle.judge.proofs.JudgedLaws.{accepted-told, refused-told}
@@ -22,7 +23,7 @@ returns : tie.Need-returns
 returns c =
     let a = c .before .before .before .before .before .before .args in
     let told = accepted-told (now (a .sheet)) (c .before .before .judged2 .given .1) (c .before .before .before .before .judge .ensures) in
-    memory-refused (quickTerms (a .work)) (now (a .sheet)) (told .is-accepted) refl (lt-leb 16384 (a .work) (c .if1 .taken))
+    memory-refused (quickTerms (a .work)) (now (a .sheet)) (told .is-accepted) refl (lt-leb workNumbers (a .work) (c .if1 .taken))
 
 cast-t10 : tie.Need-cast-t10
 cast-t10 c = search needs
@@ -40,7 +41,7 @@ returns-3 c =
     let a = c .before .before .before .before .before .before .args in
     let told = accepted-told (now (a .sheet)) (c .before .before .judged2 .given .1) (c .before .before .before .before .judge .ensures) in
     record {
-      met = record { accepted = told .is-accepted; in-range = refl; enough = le-leb 16384 (a .work) (c .if1 .left) };
+      met = record { accepted = told .is-accepted; in-range = refl; enough = le-leb workNumbers (a .work) (c .if1 .left) };
       modules-are = told .modules-are;
       horizon-is = told .horizon-is;
     }

@@ -4,6 +4,7 @@ use lib.ListN.{length}
 use denote.Ref.{now}
 use borrow.Author.Needs.{needs}
 use borrow.Rule.Slice.PartMut.{mid-len}
+use Rattle.memory.specs.Map.{layerNumbers}
 use Rattle.modules.proofs.Telling.{rule, tells}
 use Rattle.states.proofs.Giving.{InModule, in-module, module-is, stays-layer}
 use Rattle.states.proofs.module_given.Statement.{statement}
@@ -36,7 +37,7 @@ largest-demand-requires : tie.Need-largest-demand-requires
 largest-demand-requires c κs =
     let a = c .before .before .before .before .before .before .before in
     let i = known a in
-    (omega (arith, i .short), omega (arith, i .room, mid-len 0 8192 (now (a .args .work)) (omega (arith, i .room))), tells (now (a .args .sheet)) (a .pre .accepted) (a .args .«module») (i .number) (c .before .before .before .before .engine-at .ensures))
+    (omega (arith, i .short), omega (arith, i .room, mid-len 0 layerNumbers (now (a .args .work)) (omega (arith, i .room))), tells (now (a .args .sheet)) (a .pre .accepted) (a .args .«module») (i .number) (c .before .before .before .before .engine-at .ensures))
 
 same-length : tie.Need-same-length
 same-length c = search needs

@@ -4,6 +4,7 @@ use lib.ListN.{length}
 use denote.Ref.{now}
 use borrow.Author.Needs.{needs}
 use borrow.Rule.Slice.PartMut.{mid-len}
+use Rattle.memory.specs.Map.{layerNumbers}
 use Rattle.modules.proofs.Telling.{rule, tells}
 use Rattle.states.proofs.Giving.{InState, in-state, state-is, stays-layer}
 use Rattle.states.proofs.state_given.Statement.{statement}
@@ -38,7 +39,7 @@ demand-at-requires c κs =
     let i = known a in
     let bs = now (a .args .sheet) in
     let told = c .before .before .before .before .engine-at .ensures in
-    (omega (arith, i .short), omega (arith, i .room, mid-len 0 8192 (now (a .args .work)) (omega (arith, i .room))), omega (arith, i .mode, told .modes), omega (arith, i .time, told .each (a .args .mode) (omega (arith, i .mode, told .modes)) .period), tells bs (a .pre .accepted) (a .args .«module») (i .number) told)
+    (omega (arith, i .short), omega (arith, i .room, mid-len 0 layerNumbers (now (a .args .work)) (omega (arith, i .room))), omega (arith, i .mode, told .modes), omega (arith, i .time, told .each (a .args .mode) (omega (arith, i .mode, told .modes)) .period), tells bs (a .pre .accepted) (a .args .«module») (i .number) told)
 
 same-length : tie.Need-same-length
 same-length c = search needs
