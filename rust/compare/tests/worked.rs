@@ -34,7 +34,10 @@ fn case_i() {
         let made = table_1(horizon);
         let bytes = encode(&made);
         let verdict = quick_test(&bytes, &mut [0; tyvasuri::Sheet::WORK_LEN]);
-        assert!(matches!(verdict, Ok(Quick::Over { length: 1, demand: 2, .. })), "horizon {horizon}: {verdict:?}");
+        assert!(
+            matches!(verdict, Ok(Quick::Over { length: 1, demand: 2, .. })),
+            "horizon {horizon}: {verdict:?}"
+        );
         let way = if horizon <= 10 { Way::Literal } else { Way::Table };
         let compared = comparison.every_call(&mut Rng::new(0), &bytes, way, &made);
         assert_eq!(compared, Ok(()), "horizon {horizon}");
