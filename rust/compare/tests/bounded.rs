@@ -8,6 +8,7 @@ use compare::tally::Tally;
 use compare::wanted::{Wanted, Way};
 use second::generate::{damaged, sheet, Damage, Rng, Shape};
 use second::{encode, judge, Exact, Module, Sheet};
+use std::ops::Range;
 
 const SHEET_A: &[u8] = include_bytes!("../../../examples/a_two_modules.sheet");
 
@@ -23,10 +24,10 @@ fn both_verdicts(tally: &Tally, least: u64) -> bool {
     tally.quick.iter().chain(&tally.exact).all(|&count| count >= least)
 }
 
-#[test]
-fn small_sheets() {
+/// Small sheets of these seeds, enough of them for every kind of answer.
+fn small(seeds: Range<u64>) {
     let mut comparison = Comparison::default();
-    (0..40_000).for_each(|seed| alike(comparison.small(seed)));
+    seeds.for_each(|seed| alike(comparison.small(seed)));
     let tally = comparison.tally;
     println!("{tally}");
     assert!(both_verdicts(&tally, 1000));
@@ -35,6 +36,17 @@ fn small_sheets() {
         assert!(tally.calls[demand][0] > 1000 && tally.calls[demand][9] > 1000);
     }
     assert!((2..=6).all(|borrowing| tally.calls[borrowing][10] > 200));
+}
+
+#[test]
+fn small_sheets() {
+    small(0..20_000);
+}
+
+/// As many again, so that two processors share them.
+#[test]
+fn more_small_sheets() {
+    small(20_000..40_000);
 }
 
 #[test]
