@@ -3,7 +3,8 @@
  *
  * The functions are those of libchecker.a, which `rt staticlib checker` writes
  * to target/staticlib/ at the repository's root. They are proved to answer as
- * the build definition of the sheets (document 01) says, for any bytes and any
+ * the build definition of the sheets (document 01) says, with the change
+ * requests (document 02) that docs/CHANGES.md names, for any bytes and any
  * numbers.
  *
  * Memory. The caller lends all memory. A pointer is never null, also where its
@@ -88,12 +89,19 @@ uint64_t tyvasuri_state_demand(const uint8_t *sheet, size_t sheet_len,
                                size_t time, size_t length,
                                uint32_t *work, size_t work_len);
 
-/* The largest state demand over all states of the module's listed modes. */
+/*
+ * The largest state demand over all states of the modes that are reached from
+ * mode 0: mode 0, and what a reached mode lists as a switch's target. A mode that
+ * no chain of switches leads to does not count; its state demands are answered.
+ */
 uint64_t tyvasuri_module_demand(const uint8_t *sheet, size_t sheet_len,
                                 size_t module, size_t length,
                                 uint32_t *work, size_t work_len);
 
-/* The quick test. Over: the smallest length, and the demand for it. */
+/*
+ * The quick test, over the module demands. Over: the smallest length, and the
+ * demand for it. Clear here is clear in the exact test too.
+ */
 uint64_t tyvasuri_quick_test(const uint8_t *sheet, size_t sheet_len,
                              uint32_t *work, size_t work_len);
 

@@ -14,10 +14,10 @@ use Rattle.model.specs.WellFormed.{ModuleRule}
 use Rattle.model.specs.Run.{first}
 use Rattle.model.specs.Demand.{value}
 use Rattle.model.proofs.Bounds.{value-bound}
+use Rattle.model.proofs.Reaching.{reach-listed}
 use Rattle.layers.specs.declared.Shape.{Shape}
 use Rattle.layers.specs.Layer.{Layer, Told, Each, Advanced}
 use Rattle.memory.specs.Map.{layerNumbers, markNumbers, layerFrom, marksFrom, layerPart, marksPart}
-use Rattle.entries.proofs.Reaches.{reach-listed}
 use Rattle.entries.proofs.Figures.{figure-end, figure-step}
 use Rattle.marks.specs.Marks.{Marks}
 use Rattle.figures.specs.Offers.{Below, ShapeOffer}

@@ -1,4 +1,4 @@
--- The sheets of the worked cases (document 01, 'Program and examples'): bytes where the case gives bytes, values else. Assumes nothing.
+-- The sheets of the worked cases (document 01, 'Program and examples'; document 02): bytes where the case gives bytes, values else. Assumes nothing.
 use mathlib.Core.List.{List, [], _∷_}
 use Prim.Native.Nat.{ℕ}
 use Rattle.model.specs.Sheet.{Task, Switch, Mode, Module, Sheet}
@@ -63,3 +63,15 @@ sheetG = record { horizon = 8; modules = pair (task 0 1 1 4 ∷ []) (task 1 3 3 
 -- Slip 3: module 1 begins in a mode without tasks.
 unfoldable pub suspended : Sheet
 suspended = record { horizon = 8; modules = lone 4 (task 0 3 4 4) ∷ pair [] (task 0 2 3 4 ∷ []) ∷ [] }
+
+-- Request b: no switch leads to mode 2 of module 0, a factory mode.
+unfoldable pub factory : Sheet
+factory =
+    record {
+      horizon = 8;
+      modules =
+          modes
+          (mode 4 (task 0 1 4 4 ∷ []) (to 1 4 ∷ []) ∷ mode 4 (task 0 2 4 4 ∷ []) (to 0 4 ∷ []) ∷ mode 4 (task 0 4 4 4 ∷ []) (to 0 4 ∷ []) ∷ [])
+          ∷ lone 4 (task 0 2 4 4)
+          ∷ [];
+    }

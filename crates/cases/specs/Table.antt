@@ -1,18 +1,23 @@
--- The proved cases A to H and the worked sheet of slip 3, in one table: what the definitions give, and what document 01 says. Assumes nothing.
+-- The proved cases A to H, the worked sheet of slip 3 and that of request b, in one table: what the definitions give, and what documents 01 and
+-- 02 say. Assumes nothing.
 use mathlib.Core.List.{List, [], _∷_}
 use Prim.Native.Nat.{ℕ}
 use lib.ListN.{length}
 use Rattle.model.specs.Limits.{workNumbers}
+use Rattle.model.specs.Lists.{sumOf}
+use Rattle.model.specs.Demand.{listedDemand}
+use Rattle.model.specs.Verdict.{Quick, over, quickFrom}
 use Rattle.format.specs.Encoding.{encode}
 use Rattle.query.specs.Answer.{Answer, given}
-use Rattle.query.specs.Query.{modeAnswer, stateAnswer}
+use Rattle.query.specs.Query.{modeAnswer, stateAnswer, moduleAnswer}
 use Rattle.lines.specs.Lines.{ascii, lines}
-use Rattle.cases.specs.Sheets.{sheetA, sheetD, sheetE, sheetF, sheetG, sheetH, suspended}
+use Rattle.cases.specs.Sheets.{sheetA, sheetD, sheetE, sheetF, sheetG, sheetH, suspended, factory}
 
 pub data Outcome : Type 0 where
   bytes : ℕ → Outcome
   prints : List ℕ → Outcome
   demands : Answer ℕ → Outcome
+  decides : Quick → Outcome
 
 pub record Case : Type 0 where
   pub gives : Outcome
@@ -55,4 +60,9 @@ table =
     -- slip 3
     ∷ row (prints (lines (encode suspended)))
     (prints (ascii "sheet modules 2 modes 3 tasks 2 switches 2 horizon 8\nquick over 4 demand 5\nexact over 4 8 demand 5\nrun 0 00000000\nrun 1 00001111\n"))
+    -- request b: the quick test over all listed modes was over; the reached ones are clear, and the factory mode's state demand is still answered
+    ∷ row (decides (quickFrom (λ L. sumOf (λ m. listedDemand m L) (factory .modules)) (factory .horizon) 1)) (decides (over 4 6))
+    ∷ row (prints (lines (encode factory))) (prints (ascii "sheet modules 2 modes 4 tasks 4 switches 3 horizon 8\nquick clear\nexact clear\n"))
+    ∷ row (demands (moduleAnswer (encode factory) 0 4 workNumbers)) (demands (given 2))
+    ∷ row (demands (stateAnswer (encode factory) 0 2 0 4 workNumbers)) (demands (given 4))
     ∷ []

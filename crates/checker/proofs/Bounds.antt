@@ -2,7 +2,7 @@
 -- belongs to a well-formed sheet. And what bounds the modes of such a sheet and the demand of a verdict. Assumes nothing.
 use mathlib.Core.Path.{_≡_, refl, sym, subst}
 use mathlib.Core.Bool.{Bool, true, false}
-use mathlib.Core.List.{List, []}
+use mathlib.Core.List.{List}
 use Prim.Native.Nat.{ℕ, _*_, _^_, _≤_, _<_}
 use native.Mathlib.Nat.{le-refl}
 use native.Mathlib.Omega.{arith}
@@ -24,8 +24,8 @@ use Rattle.format.proofs.Judging.{refused-number}
 use Rattle.format.proofs.RoundTrip.{accepted-wellFormed, refused-place}
 use Rattle.query.specs.Answer.{Answer, refused, given, Terms, GivenBy, AnsweredBy, Answered}
 use Rattle.query.specs.Query.{WitnessedIs, exactTerms, ExactAnswer}
-use Rattle.sums.proofs.Sums.{demand-bound}
 use Rattle.model.proofs.Summing.{sum-most}
+use Rattle.model.proofs.Emptied.{module-bound}
 use Rattle.exact.specs.declared.Exact as exact
 use Rattle.exact.specs.declared.Exact.the-variants.{Refused, Clear, Over}
 use Rattle.exact.specs.Exact.{answerOf}
@@ -83,7 +83,7 @@ module _ (s : Sheet) (ok : WellFormed s) where
   pub quick-demand : (L v : ℕ) → QuickIs s (Quick.over L v) → v < 2 ^ 32
   unfolding quickSum
   quick-demand L v h =
-      let most = sum-bound (λ m. moduleDemand m L) 32000 (λ m r. omega (arith, demand-bound m r L, h .1, ok .horizon-most)) in
+      let most = sum-bound (λ m. moduleDemand m L) 32000 (λ m r. omega (arith, module-bound m r L, h .1, ok .horizon-most)) in
       omega (arith, quick-sum-only s ok L v (h .2), most, ok .modules-most)
 
   -- the demand fits the 24 bits above start and end

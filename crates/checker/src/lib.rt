@@ -131,7 +131,7 @@ pub extern "C" fn tyvasuri_state_demand(
     demand_number(states::state_demand(sheet, module, mode, time, length, work))
 }
 
-/// The largest demand in so many ticks over all runs of the module, from any of its states.
+/// The largest demand in so many ticks over all runs of the module, from any state of a mode that is reached from mode 0.
 #[no_mangle]
 pub extern "C" fn tyvasuri_module_demand(
     sheet: &[u8],

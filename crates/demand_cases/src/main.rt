@@ -1,4 +1,4 @@
-// Asks for the demands of the worked cases C, D and E and for more, and prints what is answered, a line each.
+// Asks for the demands of the worked cases C, D and E, of a sheet with a factory mode and for more, and prints what is answered, a line each.
 use demand::Demand;
 
 fn say(answer: Demand) {
@@ -55,7 +55,18 @@ fn states() {
     say(states::module_demand(b"", 2, 8, &mut short));
 }
 
+// Request b: the factory mode, mode 2 of module 0, is in no module demand, and its own state demand is answered.
+fn factory() {
+    let sheet =
+        b"HZ\x08\x00ML\x03\x00MD\x04\x00TK\x00\x00\x01\x00\x04\x00\x04\x00SW\x01\x00\x04\x00MD\x04\x00TK\x00\x00\x02\x00\x04\x00\x04\x00SW\x00\x00\x04\x00MD\x04\x00TK\x00\x00\x04\x00\x04\x00\x04\x00SW\x00\x00\x04\x00ML\x01\x00MD\x04\x00TK\x00\x00\x02\x00\x04\x00\x04\x00EN\x0e\x00";
+    let mut work = [0u32; judge::Sheet::WORK_NUMBERS];
+    say(states::module_demand(sheet, 0, 4, &mut work));
+    say(states::module_demand(sheet, 1, 4, &mut work));
+    say(states::state_demand(sheet, 0, 2, 0, 4, &mut work));
+}
+
 fn main() {
     modes();
     states();
+    factory();
 }

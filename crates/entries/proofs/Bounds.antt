@@ -6,13 +6,14 @@ use native.Mathlib.Omega.{arith}
 use Rattle.model.specs.Lists.{sumOf, All}
 use Rattle.model.specs.Sheet.{Module, Sheet}
 use Rattle.model.specs.WellFormed.{ModuleRule, WellFormed}
-use Rattle.model.specs.Run.{State, first, Listed, Next}
+use Rattle.model.specs.Run.{State, first, Inside, Reached, mode-0, Next}
 use Rattle.model.specs.Demand.{StateDemand, value, moduleDemand}
 use Rattle.model.specs.Verdict.{Quick, Exact, QuickIs, ExactIs, quickSum, exactSum}
 use Rattle.model.proofs.Demands.{state-demand, module-demand}
 use Rattle.model.proofs.Verdicts.{quick-sum, exact-sum-only}
-use Rattle.model.proofs.Runs.{first-listed, next-listed}
-use Rattle.entries.proofs.Reaches.{reach-keeps, reach-listed}
+use Rattle.model.proofs.Runs.{period-positive, next-inside}
+use Rattle.model.proofs.Reached.{next-reached}
+use Rattle.model.proofs.Reaching.{reach-keeps, reach-listed}
 use Rattle.entries.proofs.Figures.{figure-largest}
 
 -- One module.
@@ -26,8 +27,14 @@ module _ (m : Module) (ok : ModuleRule m) where
       let s = r .0 in
       top (value m a b first) (s, reach-keeps m (λ n. P) start (λ n. keeps) a s (r .1), rw (r .2) (state-demand m ok s (reach-listed m ok a s (r .1) .time) (b - a)))
 
+  -- a state that the module demand ranges over
+  abbrev Ranged : State → Type 0
+  Ranged s = Inside m s × Reached m (s .mode)
+
   pub quick-bounds : (a b : ℕ) → a ≤ b → value m a b first ≤ moduleDemand m (b - a)
-  quick-bounds a b l = kept-bounds (Listed m) (first-listed m ok) (next-listed m ok) a b (moduleDemand m (b - a)) l (module-demand m ok (b - a) .1)
+  quick-bounds a b l =
+      kept-bounds Ranged (period-positive m ok 0, mode-0) (λ s t h n. (next-inside m ok s t n, next-reached m s t (h .1) n)) a b (moduleDemand m (b - a)) l
+      (λ w r. module-demand m ok (b - a) .1 w (r .0, r .1 .0, r .1 .1, r .2))
 
 -- A sheet.
 

@@ -12,12 +12,12 @@ use borrow.Author.Tests.{leb-true}
 use Rattle.model.specs.Lists.{when, sumOf, maxOf, IsLargest}
 use Rattle.model.specs.Sheet.{Task, Module}
 use Rattle.model.specs.WellFormed.{ModuleRule}
-use Rattle.model.specs.Run.{State, first, modeOf, Inside, Next, releases, gainOf, gain}
+use Rattle.model.specs.Run.{State, first, modeOf, Inside, Next, releases, gainOf, gain, ReachFrom, Reach}
 use Rattle.model.specs.Demand.{nexts, value}
 use Rattle.model.proofs.Lists.{le-maxOf, maxOf-reached}
 use Rattle.model.proofs.Runs.{nexts-sound, nexts-complete, some-next, period-positive, next-inside}
-use Rattle.entries.specs.Entry.{ReachFrom, Reach, Releasing}
-use Rattle.entries.proofs.Reaches.{from-next, from-second, from-last, from-same, from-on, reach-listed}
+use Rattle.model.proofs.Reaching.{from-next, from-second, from-last, from-same, from-on, reach-listed}
+use Rattle.entries.specs.Entry.{Releasing}
 
 -- What a state gains.
 

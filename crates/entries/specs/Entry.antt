@@ -1,18 +1,10 @@
--- Which states the runs of a module have at a tick, when a mode can be begun, and which states gain something. Assumes nothing.
+-- When a mode can be begun, and which states gain something. Assumes nothing.
 use mathlib.Core.Path.{_≡_}
 use mathlib.Core.Bool.{true}
 use mathlib.Core.List.{List·Memᴰ}
 use Prim.Native.Nat.{ℕ, _+_, _*_, _≤_}
 use Rattle.model.specs.Sheet.{Task, Switch, Module}
-use Rattle.model.specs.Run.{State, first, modeAt, modeOf, Run, IsRun, releases}
-
--- a run that begins in the state s has the state t at tick a
-abbrev pub ReachFrom : Module → State → ℕ → State → Type 0
-ReachFrom m s a t = (ρ : Run) × IsRun m s ρ × (ρ a ≡ t)
-
--- a run of the module from tick 0 has the state s at tick a
-abbrev pub Reach : Module → ℕ → State → Type 0
-Reach m a s = ReachFrom m first a s
+use Rattle.model.specs.Run.{State, modeAt, modeOf, releases}
 
 -- Mode k can be begun at tick t: as the first, after itself, or by a switch, which is open at each multiple of its period in the stay.
 pub data Entry (m : Module) : ℕ → ℕ → Type 0 where

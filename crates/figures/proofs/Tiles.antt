@@ -12,18 +12,19 @@ use borrow.Author.Tests.{eqb-true}
 use Rattle.model.specs.Sheet.{Task, Module}
 use Rattle.model.specs.WellFormed.{ModuleRule}
 use Rattle.model.specs.Flat.{taskNumbers}
-use Rattle.model.specs.Run.{State, at, first, modeAt}
+use Rattle.model.specs.Run.{State, at, first, modeAt, Reach}
 use Rattle.model.specs.Demand.{value}
 use Rattle.model.proofs.Bounds.{value-bound}
 use Rattle.model.proofs.Runs.{period-positive}
+use Rattle.model.proofs.Reaching.{reach-listed}
 use Rattle.layers.specs.declared.Shape.{Shape}
 use Rattle.layers.specs.Step.{look, total, period, tasksOf, Cleared}
 use Rattle.layers.specs.Layer.{Layer, Told}
 use Rattle.layers.proofs.Layers.{told-room, value-told}
 use Rattle.layers.proofs.Sums.{sum-before}
 use Rattle.layers.proofs.Nexts.{behind, behind-first}
-use Rattle.entries.specs.Entry.{Reach, Releasing}
-use Rattle.entries.proofs.Reaches.{reach-listed, entry-reach, reach-entry}
+use Rattle.entries.specs.Entry.{Releasing}
+use Rattle.entries.proofs.Reaches.{entry-reach, reach-entry}
 use Rattle.entries.proofs.Figures.{figure-largest, figure-end, figure-later, figure-step}
 use Rattle.marks.specs.Marks.{Marks}
 use Rattle.figures.specs.Figures.{Figures}

@@ -2,7 +2,7 @@
 -- largest value after a state is that of the stay and of the modes that open. Assumes nothing.
 use mathlib.Core.Path.{_≡_, refl, sym, ap}
 use mathlib.Core.Logic.{_⊎_, inl, inr}
-use mathlib.Core.Bool.{Bool, true, false, _&&_, _||_, false≢true, and-eq-true-iff}
+use mathlib.Core.Bool.{Bool, true, false, _&&_, false≢true, and-eq-true-iff}
 use mathlib.Core.List.{List, [], _∷_, List·Memᴰ, List·Memᴰ·head, List·Memᴰ·tail}
 use Prim.Native.Nat.{ℕ, _+_, _%_, _≤_, _<_, max}
 use native.Mathlib.Nat.{le-antisymm, le-trans, max-le, le-max-left, le-max-right}
@@ -14,19 +14,9 @@ use Rattle.model.specs.Sheet.{Switch, Module, modesIn}
 use Rattle.model.specs.WellFormed.{ModuleRule}
 use Rattle.model.specs.Run.{State, at, modeOf, Listed, Next, on, again, switched}
 use Rattle.model.specs.Demand.{nexts}
-use Rattle.model.proofs.Lists.{le-maxOf, le-maxBelow, maxBelow-reached}
+use Rattle.model.proofs.Lists.{le-maxOf, le-maxBelow, maxBelow-reached, or-either, or-right}
 use Rattle.model.proofs.Runs.{next-mode, nexts-complete, best-next}
 use Rattle.following.specs.Follow.{leads, opens, stay, stays, Follows, in-stay, at-head}
-
--- Tests.
-
-or-either : (b c : Bool) → b || c ≡ true → (b ≡ true) ⊎ (c ≡ true)
-or-either true c e = inl refl
-or-either false c e = inr e
-
-or-right : (b c : Bool) → c ≡ true → b || c ≡ true
-or-right true c e = refl
-or-right false c e = e
 
 -- The switches.
 

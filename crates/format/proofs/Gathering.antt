@@ -8,12 +8,12 @@ use lib.Dec.{leb, ltb, eqb}
 use lib.ListN.{length, length-reverse}
 use borrow.Author.Tests.{ltb-true, leb-true, eqb-true, eqb-false, not-true}
 use Rattle.model.specs.Lists.{sumOf, All, AllFrom, Distinct}
-use Rattle.model.specs.Sheet.{Task, Switch, Mode, Module, Sheet, Counts, counts, modesIn, tasksIn, switchesIn}
+use Rattle.model.specs.Sheet.{Task, Switch, Mode, Module, Sheet, Counts, counts, modesIn, tasksIn, switchesIn, named}
 use Rattle.model.specs.Limits.{maxHorizon, maxModes, maxModePeriod, maxModeTasks}
 use Rattle.model.specs.WellFormed.{TaskRule, SwitchRule, ModeRule, ModuleRule, WellFormed}
 use Rattle.format.specs.Record.{Record, hz, ml, md, tk, sw, en}
 use Rattle.format.specs.Encoding.{joined, modeRecords, moduleRecords, recordsBeforeEnd, records}
-use Rattle.format.specs.Rules.{ofMD, ofTK, ofSW, taken, modulesRead, stated, seen, modePeriod, tasksRead, switchesRead, isEmpty, ended, ordered, between, divides, eachDivides, named, taskRuled, switchRuled, ruled, Sound, AllSound}
+use Rattle.format.specs.Rules.{ofMD, ofTK, ofSW, taken, modulesRead, stated, seen, modePeriod, tasksRead, switchesRead, isEmpty, ended, ordered, between, divides, eachDivides, taskRuled, switchRuled, ruled, Sound, AllSound}
 use Rattle.format.specs.Judgement.{gather, gathered}
 use Rattle.format.proofs.Sizes.{small}
 

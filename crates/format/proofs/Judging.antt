@@ -162,30 +162,30 @@ front-tested : (bs : List ℕ) (rs : List Record) (r : Record) → Front bs (r �
 front-tested bs rs r f = tested-whole bs (bytesIn rs) rs (markOf r) (f .2) ∙ rw (f .3, f .4 .order, f .4 .count, f .4 .value)
 
 -- the judgement comes to the place after sound records, and may then read at least as many records as bytes are left
-record Reached (bs : List ℕ) (rs : List Record) : Type 0 where
+record CameTo (bs : List ℕ) (rs : List Record) : Type 0 where
   more : ℕ
   enough : length bs ≤ more + bytesIn rs
   same : judgement bs ≡ judgeFrom (suc more) bs (bytesIn rs) rs
 
-front-reached : (bs : List ℕ) (rs : List Record) → Front bs rs → Reached bs rs
+front-came : (bs : List ℕ) (rs : List Record) → Front bs rs → CameTo bs rs
 unfolding judgement
-front-reached bs [] f = record { more = length bs; enough = omega arith; same = refl }
-front-reached bs (r ∷ rs) f = go (front-reached bs rs (f .0))
+front-came bs [] f = record { more = length bs; enough = omega arith; same = refl }
+front-came bs (r ∷ rs) f = go (front-came bs rs (f .0))
   where
-    step : (n : ℕ) → length bs ≤ n + bytesIn rs → judgement bs ≡ judgeFrom (suc n) bs (bytesIn rs) rs → Reached bs (r ∷ rs)
+    step : (n : ℕ) → length bs ≤ n + bytesIn rs → judgement bs ≡ judgeFrom (suc n) bs (bytesIn rs) rs → CameTo bs (r ∷ rs)
     step zero l e = absurd (omega (arith, front-fits bs (r ∷ rs) f))
     step (suc n) l e = record { more = n; enough = omega arith; same = e ∙ judge-sound (suc n) bs rs r (f .1) (front-tested bs rs r f) }
 
-    go : Reached bs rs → Reached bs (r ∷ rs)
+    go : CameTo bs rs → CameTo bs (r ∷ rs)
     go h = step (h .more) (h .enough) (h .same)
 
 pub refused-there : (bs : List ℕ) (n p : ℕ) (rs : List Record) → Front bs rs → p ≡ bytesIn rs → ended rs ≡ false → tested bs p rs ≡ fault n → judgement bs ≡ refused n p
 refused-there bs n p rs f e g t =
-    let h : Reached bs rs = front-reached bs rs f in
+    let h : CameTo bs rs = front-came bs rs f in
     h .same ∙ ap (λ (q : ℕ). judgeFrom (suc (h .more)) bs q rs) (sym e) ∙ judge-fault (h .more) bs p rs n g t
 
 pub closed-there : (bs : List ℕ) (rs : List Record) → Front bs rs → ended rs ≡ true → judgement bs ≡ closed bs (bytesIn rs) rs
-closed-there bs rs f e = let h : Reached bs rs = front-reached bs rs f in h .same ∙ judge-ended (h .more) bs (bytesIn rs) rs e
+closed-there bs rs f e = let h : CameTo bs rs = front-came bs rs f in h .same ∙ judge-ended (h .more) bs (bytesIn rs) rs e
 
 pub refusal-judgement : (bs : List ℕ) (n p : ℕ) → Refusal bs n p → judgement bs ≡ refused n p
 refusal-judgement bs n p (no-mark rs f e g l k) = refused-there bs n p rs f e g (tested-short bs p rs l ∙ ap fault (sym k))

@@ -7,12 +7,12 @@ use native.Mathlib.Omega.{arith}
 use lib.ListN.{length, length-reverseAux}
 use borrow.Author.Tests.{lt-ltb, le-leb, eq-eqb, ne-eqb}
 use Rattle.model.specs.Lists.{sumOf, All, AllFrom, Distinct}
-use Rattle.model.specs.Sheet.{Task, Switch, Mode, Module, Sheet, tasksIn, switchesIn}
+use Rattle.model.specs.Sheet.{Task, Switch, Mode, Module, Sheet, tasksIn, switchesIn, named}
 use Rattle.model.specs.Limits.{maxModules, maxModeTasks, maxTasks, maxSwitches}
 use Rattle.model.specs.WellFormed.{TaskRule, SwitchRule, ModeRule, ModuleRule, WellFormed}
 use Rattle.format.specs.Record.{Record, hz, ml, md, tk, sw, en}
 use Rattle.format.specs.Encoding.{joined, modeRecords, moduleRecords, recordsBeforeEnd, records}
-use Rattle.format.specs.Rules.{ofTK, ofSW, taken, modulesRead, stated, seen, modePeriod, tasksRead, switchesRead, isEmpty, ended, ordered, counted, eachDivides, named, taskRuled, switchRuled, ruled, Sound, AllSound}
+use Rattle.format.specs.Rules.{ofTK, ofSW, taken, modulesRead, stated, seen, modePeriod, tasksRead, switchesRead, isEmpty, ended, ordered, counted, eachDivides, taskRuled, switchRuled, ruled, Sound, AllSound}
 use Rattle.format.specs.Judgement.{gather, gathered}
 
 -- What is gathered, level by level: the records of a part give the part.

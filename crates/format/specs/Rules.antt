@@ -1,12 +1,12 @@
 -- The tests of one record against the records read so far: order (3), counts (4), values (5, 6, 7) (document 01, 'Refusal numbers').
 -- The records read so far are a list with the last one first. Assumes nothing.
 use mathlib.Core.Path.{_≡_}
-use mathlib.Core.Bool.{Bool, true, false, not, _&&_, _||_}
+use mathlib.Core.Bool.{Bool, true, false, not, _&&_}
 use mathlib.Core.List.{List, [], _∷_, _++_}
 use Prim.Native.Nat.{ℕ, _+_, _%_}
 use lib.Dec.{leb, ltb, eqb}
 use lib.ListN.{length}
-use Rattle.model.specs.Sheet.{Task, Switch}
+use Rattle.model.specs.Sheet.{Task, Switch, named}
 use Rattle.model.specs.Limits.{maxHorizon, maxModules, maxModes, maxModePeriod, maxModeTasks, maxTasks, maxSwitches}
 use Rattle.format.specs.Record.{Mark, HZ, ML, MD, TK, SW, EN, Record, hz, ml, md, tk, sw, en, markOf}
 
@@ -127,10 +127,6 @@ divides p n = leb 1 p && eqb (n % p) 0
 abbrev pub eachDivides : List Task → ℕ → Bool
 eachDivides [] n = true
 eachDivides (k ∷ ks) n = divides (k .period) n && eachDivides ks n
-
-abbrev pub named : ℕ → List Switch → Bool
-named target [] = false
-named target (w ∷ ws) = eqb target (w .target) || named target ws
 
 -- in a mode of this period
 unfoldable pub taskRuled : ℕ → Task → Bool

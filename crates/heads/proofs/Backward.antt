@@ -22,7 +22,7 @@ use Rattle.layers.proofs.Turns.{turn-back}
 use Rattle.layers.proofs.Layers.{states-told, place-inside, held-told, told-ready, layer-start}
 use Rattle.following.specs.Follow.{counted}
 use Rattle.following.proofs.Ticks.{value-over, value-step}
-use Rattle.heads.specs.Heads.{pairAt, HeadsAt, Packed, Noted, Reached, Kept}
+use Rattle.heads.specs.Heads.{pairAt, HeadsAt, Packed, Noted, BackTo, Kept}
 use Rattle.heads.proofs.Pairs.{packed-head, head-same}
 
 -- What a layer holds.
@@ -65,8 +65,8 @@ module _ (s : Shape) (numbers : List ℕ) (a b : ℕ) (tells : Tells s numbers) 
         holds-same m 0 (value m 0 0) (value m (a - b) (b - b)) w′ (λ k d. value-over m (at k d) 0 0 0 (omega arith) ∙ sym (value-over m (at k d) (a - b) b b (omega arith)))
         (layer-start m s numbers told w w′ room cleared)
 
-    pub reached-end : Reached s numbers a b b w″
-    reached-end = record {
+    pub back-end : BackTo s numbers a b b w″
+    back-end = record {
       layer = λ m ok told. subst (λ (n : ℕ). Holds m n (value m (a - b) (b - b)) w″) (sym (sub-self b)) (holds-kept m ok 0 _ w′ w″ (new .len) (λ x l. new .below x (omega arith)) (end-layer m ok told));
       heads = λ m ok told u low high.
           let same : u ≡ b = omega arith in
@@ -81,7 +81,7 @@ module _ (s : Shape) (numbers : List ℕ) (a b : ℕ) (tells : Tells s numbers) 
 
   -- One tick back.
 
-  module _ (t : ℕ) (inside : t < b) (w : List ℕ) (reached : Reached s numbers a b (t + 1) w) where
+  module _ (t : ℕ) (inside : t < b) (w : List ℕ) (back : BackTo s numbers a b (t + 1) w) where
     pub steppable : total (s .periods) (s .modes) ≤ length w → Steppable s numbers w
     steppable room = record { owner = tells .owner; rule = tells .rule; told = tells .told; room = room; low = low }
       where
@@ -94,7 +94,7 @@ module _ (s : Shape) (numbers : List ℕ) (a b : ℕ) (tells : Tells s numbers) 
             let f : Moment → ℕ = value m (a - (t + 1)) (b - (t + 1)) in
             let q = tells .told .each k h .period in
             rw (sym (turned .2))
-            (omega (arith, held-told m s numbers (tells .told) (b - (t + 1)) f w (reached .layer m (tells .rule) (tells .told)) k d h j, value-fits m (tells .rule) (a - (t + 1)) (b - (t + 1)) (at k d) (omega arith) (omega arith)))
+            (omega (arith, held-told m s numbers (tells .told) (b - (t + 1)) f w (back .layer m (tells .rule) (tells .told)) k d h j, value-fits m (tells .rule) (a - (t + 1)) (b - (t + 1)) (at k d) (omega arith) (omega arith)))
 
     module _ (l : ℕ) (is : l ≡ counted a b t) (w′ w″ : List ℕ) (n : ℕ) (steps : n ≡ b - (t + 1)) (stepped : SteppedBy s numbers l n w w′) (new : Noted s t (b - t) w′ w″) where
       back-layer : Each s numbers (λ m. Holds m (b - t) (value m (a - t) (b - t)) w′)
@@ -103,10 +103,10 @@ module _ (s : Shape) (numbers : List ℕ) (a b : ℕ) (tells : Tells s numbers) 
           let more : n + 1 ≡ b - t = omega arith in
           holds-same m (b - t) (earlier m l f) (value m (a - t) (b - t)) w′
           (λ k d. rw (is, add-one t) (sym (value-step m ok (at k d) a b t inside)))
-          (subst (λ (c : ℕ). Holds m c (earlier m l f) w′) more (stepped .holds m ok told f (subst (λ (c : ℕ). Holds m c f w) (sym steps) (reached .layer m ok told))))
+          (subst (λ (c : ℕ). Holds m c (earlier m l f) w′) more (stepped .holds m ok told f (subst (λ (c : ℕ). Holds m c f w) (sym steps) (back .layer m ok told))))
 
-      pub reached-back : Reached s numbers a b t w″
-      reached-back = record {
+      pub back-more : BackTo s numbers a b t w″
+      back-more = record {
         layer = λ m ok told. holds-kept m ok (b - t) _ w′ w″ (new .len) (λ x i. new .below x (omega arith)) (back-layer m ok told);
         heads = λ m ok told u low high. pick m ok told u low high (decLt t u);
       }
@@ -115,7 +115,7 @@ module _ (s : Shape) (numbers : List ℕ) (a b : ℕ) (tells : Tells s numbers) 
           kept u i h = new .above (pairAt u i) (omega arith) ∙ stepped .above (pairAt u i) (omega (arith, states-few s numbers tells))
 
           pick : (m : Module) → ModuleRule m → Told m s numbers → (u : ℕ) → t ≤ u → u ≤ b → Dec (t < u) → HeadsAt m (value m (a - u) (b - u)) u w″
-          pick m ok told u low high (yes h) = λ j i. head-same w w″ u (λ n k. kept u n h) j (omega (arith, ok .most)) ∙ reached .heads m ok told u (omega arith) high j i
+          pick m ok told u low high (yes h) = λ j i. head-same w w″ u (λ n k. kept u n h) j (omega (arith, ok .most)) ∙ back .heads m ok told u (omega arith) high j i
           pick m ok told u low high (no h) =
               let same : u ≡ t = omega arith in
               rw same (new .heads m numbers (value m (a - t) (b - t)) ok told (back-layer m ok told) (λ j i. first-fits m ok t j))

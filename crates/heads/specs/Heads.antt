@@ -58,7 +58,7 @@ pub record Noted (s : Shape) (t n : ℕ) (w w′ : List ℕ) : Type 0 where
   pub above : (x : ℕ) → pairAt t 4 ≤ x → look w′ x ≡ look w x
 
 -- at tick t: the layer holds the largest demands in a to b from the states, and the heads from t to b stand
-pub record Reached (s : Shape) (numbers : List ℕ) (a b t : ℕ) (w : List ℕ) : Type 0 where
+pub record BackTo (s : Shape) (numbers : List ℕ) (a b t : ℕ) (w : List ℕ) : Type 0 where
   pub layer : Each s numbers (λ m. Holds m (b - t) (value m (a - t) (b - t)) w)
   pub heads : Each s numbers (λ m. HeadsFrom m a b t w)
 

@@ -8,7 +8,7 @@ ghost use Rattle.model.specs.Run.{at, gain};
 ghost use Rattle.layers.specs.Step.{look, sumBelow, due, TasksReady};
 ghost use Rattle.layers.specs.Layer.{Tells, Each};
 ghost use Rattle.following.specs.Follow.{counted};
-ghost use Rattle.heads.specs.Heads.{headOf, Filled, Packed, Noted, Reached, Kept};
+ghost use Rattle.heads.specs.Heads.{headOf, Filled, Packed, Noted, BackTo, Kept};
 use layers::Shape;
 use memory::HEADS_FROM;
 
@@ -96,7 +96,7 @@ fn note_heads(work: &mut [u32], t: usize, n: usize, shape: Shape)
 // At the end nothing is due.
 fn begin_at(work: &mut [u32], a: usize, b: usize, shape: Shape, numbers: &[u16])
     requires { ⌜ (Tells shape (now numbers)) × (b ≤ 2000) × (workNumbers ≤ length (now work)) ⌝ }
-    ensures { λ _. ⌜ (Reached shape (now (numbers .entry)) a b b (now (work .exit))) × (Kept (now (work .entry)) (now (work .exit))) ⌝ }
+    ensures { λ _. ⌜ (BackTo shape (now (numbers .entry)) a b b (now (work .exit))) × (Kept (now (work .entry)) (now (work .exit))) ⌝ }
 {
     let n = shape.modes;
     let periods = shape.periods;
@@ -106,8 +106,8 @@ fn begin_at(work: &mut [u32], a: usize, b: usize, shape: Shape, numbers: &[u16])
 
 // One tick back, to tick t.
 fn back_to(work: &mut [u32], a: usize, b: usize, t: usize, shape: Shape, numbers: &[u16])
-    requires { ⌜ (Tells shape (now numbers)) × (t < b) × (b ≤ 2000) × (workNumbers ≤ length (now work)) × (Reached shape (now numbers) a b (t + 1) (now work)) ⌝ }
-    ensures { λ _. ⌜ (Reached shape (now (numbers .entry)) a b t (now (work .exit))) × (Kept (now (work .entry)) (now (work .exit))) ⌝ }
+    requires { ⌜ (Tells shape (now numbers)) × (t < b) × (b ≤ 2000) × (workNumbers ≤ length (now work)) × (BackTo shape (now numbers) a b (t + 1) (now work)) ⌝ }
+    ensures { λ _. ⌜ (BackTo shape (now (numbers .entry)) a b t (now (work .exit))) × (Kept (now (work .entry)) (now (work .exit))) ⌝ }
 {
     layers::advance_by(work, counted_at(a, b, t), b - t - 1, shape, numbers);
     note_heads(work, t, b - t, shape);

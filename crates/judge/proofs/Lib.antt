@@ -1,3 +1,3 @@
 pub mod Turns
-pub mod Reached
+pub mod CameTo
 pub mod JudgedLaws

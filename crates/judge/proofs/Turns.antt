@@ -10,10 +10,10 @@ use lib.Dec.{ltb, eqb}
 use lib.ListN.{length, getD, set, replicate, length-set}
 use lib.Seq.{getD-set-same, getD-set-other}
 use borrow.Author.Tests.{eqb-true, eqb-false, ne-eqb, ltb-true, lt-ltb, not-true, not-false}
-use Rattle.model.specs.Sheet.{Task, Switch}
+use Rattle.model.specs.Sheet.{Task, Switch, named}
 use Rattle.model.specs.Limits.{maxModes, maxModeTasks}
 use Rattle.format.specs.Record.{Mark, HZ, ML, MD, TK, SW, EN, Record, hz, ml, md, tk, sw, en, size, markAt, recordAt}
-use Rattle.format.specs.Rules.{tasksRead, switchesRead, isEmpty, ordered, counted, divides, eachDivides, named, switchRuled, ruled, fieldNumber}
+use Rattle.format.specs.Rules.{tasksRead, switchesRead, isEmpty, ordered, counted, divides, eachDivides, switchRuled, ruled, fieldNumber}
 use Rattle.format.specs.Judgement.{tested}
 use Rattle.format.specs.Refusal.{Whole}
 use Rattle.format.proofs.Judging.{tested-short, tested-marked, tested-cut, tested-whole}

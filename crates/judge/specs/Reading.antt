@@ -6,10 +6,10 @@ use mathlib.Core.List.{List, [], _∷_}
 use Prim.Native.Nat.{ℕ, zero, suc, _+_, _*_, _≤_}
 use lib.Dec.{ltb, eqb}
 use lib.ListN.{length, getD}
-use Rattle.model.specs.Sheet.{Switch}
+use Rattle.model.specs.Sheet.{Switch, named}
 use Rattle.model.specs.Limits.{maxModules, maxModes, maxModeTasks, maxTasks, maxSwitches, maxBytes}
 use Rattle.format.specs.Record.{Mark, HZ, ML, MD, TK, SW, EN, Record, hz, ml, md, tk, sw, en, size, recordAt}
-use Rattle.format.specs.Rules.{ofMD, ofTK, ofSW, taken, modulesRead, stated, seen, modePeriod, tasksRead, switchesRead, isEmpty, ended, counted, divides, eachDivides, named, ruled, fieldNumber}
+use Rattle.format.specs.Rules.{ofMD, ofTK, ofSW, taken, modulesRead, stated, seen, modePeriod, tasksRead, switchesRead, isEmpty, ended, counted, divides, eachDivides, ruled, fieldNumber}
 use Rattle.format.specs.Judgement.{Tested, fault, sound, orFault, tested}
 use Rattle.format.specs.Refusal.{bytesIn}
 use Rattle.judge.specs.declared.Mark.{Mark as CodeMark}

@@ -1,5 +1,5 @@
 -- From one layer of a module to the next, by the numbers that tell the module; the first layer; and the largest number of a layer, which is the
--- module demand. Assumes nothing.
+-- largest demand from any state of a listed mode. Assumes nothing.
 use mathlib.Core.Path.{_≡_, refl, sym, ap, _∙_, subst}
 use mathlib.Core.Bool.{true}
 use mathlib.Core.List.{List, List·Memᴰ}
@@ -13,8 +13,8 @@ use Rattle.model.specs.Lists.{maxBelow, All}
 use Rattle.model.specs.Sheet.{Switch, Module}
 use Rattle.model.specs.WellFormed.{TaskRule, SwitchRule, ModeRule, ModuleRule}
 use Rattle.model.specs.Run.{State, at, modeAt, Listed}
-use Rattle.model.specs.Demand.{value, moduleDemand}
-use Rattle.model.proofs.Lists.{all-mem}
+use Rattle.model.specs.Demand.{value, listedDemand}
+use Rattle.model.proofs.Lists.{all-mem, maxBelow-same}
 use Rattle.model.proofs.Runs.{mode-rule, best-next, next-listed}
 use Rattle.layers.specs.declared.Shape.{Shape}
 use Rattle.model.proofs.Bounds.{value-bound}
@@ -180,10 +180,6 @@ layer-start m s numbers told w w′ h c = record {
 
 -- The largest number.
 
-maxBelow-same : (f g : ℕ → ℕ) (n : ℕ) → ((k : ℕ) → k < n → f k ≡ g k) → maxBelow f n ≡ maxBelow g n
-maxBelow-same f g zero h = refl
-maxBelow-same f g (suc n) h = omega (arith, h n (omega arith), maxBelow-same f g n (λ k l. h k (omega arith)))
-
 maxBelow-add : (f : ℕ → ℕ) (a b : ℕ) → maxBelow f (a + b) ≡ max (maxBelow f a) (maxBelow (λ d. f (a + d)) b)
 maxBelow-add f a zero = rw (add-zero a) (omega arith)
 maxBelow-add f a (suc b) = rw (add-suc a b) (omega (arith, maxBelow-add f a b))
@@ -194,8 +190,8 @@ maxBelow-parts f p zero = refl
 maxBelow-parts f p (suc n) = omega (arith, maxBelow-add f (sumBelow p n) (p n), maxBelow-parts f p n)
 
 pub layer-largest : (m : Module) (s : Shape) (numbers : List ℕ) → Told m s numbers → (L : ℕ) (w : List ℕ) → Layer m L w
-    → maxBelow (look w) (total (s .periods) (s .modes)) ≡ moduleDemand m L
-unfolding moduleDemand place
+    → maxBelow (look w) (total (s .periods) (s .modes)) ≡ listedDemand m L
+unfolding listedDemand place
 layer-largest m s numbers told L w layer =
     ap (maxBelow (look w)) (sym (states-told m s numbers told) ∙ add-zero (sumBelow (λ j. modeAt m j .period) (length (m .modes))))
     ∙ maxBelow-parts (look w) (λ j. modeAt m j .period) (length (m .modes))

@@ -16,12 +16,13 @@ use Rattle.model.specs.Flat.{taskNumbers}
 use Rattle.model.specs.WellFormed.{TaskRule}
 use Rattle.model.specs.Run.{State, at, modeAt, gainOf, gain}
 use Rattle.model.specs.Demand.{consIf, targets, nexts}
-use Rattle.model.proofs.Lists.{le-maxBelow}
+use Rattle.model.proofs.Lists.{le-maxBelow, maxBelow-le}
+use Rattle.model.proofs.Flat.{length-taskNumbers}
 use Rattle.layers.specs.declared.Shape.{Shape}
 use Rattle.layers.specs.Step.{sumBelow, look, lists, every, offerOf, offer, due, dueAt, offered, gained}
 use Rattle.layers.specs.Layer.{next, ModeTold}
 use Rattle.layers.proofs.Sums.{sum-same}
-use Rattle.layers.proofs.Turns.{maxBelow-le, turn-release}
+use Rattle.layers.proofs.Turns.{turn-release}
 
 -- The next states.
 
@@ -103,10 +104,6 @@ module _ (k : Task) (ks : List Task) (i : ℕ) where
   unfolding due
   due-behind l d = rw (behind 2 (4 * suc i + 2) refl, behind 3 (4 * suc i + 3) refl, behind 1 (4 * suc i + 1) refl, behind-first)
 
-numbers-length : (ks : List Task) → length (taskNumbers ks) ≡ 4 * length ks
-numbers-length [] = refl
-numbers-length (k ∷ ks) = omega (arith, numbers-length ks)
-
 -- a sum, its first first
 sum-first : (f : ℕ → ℕ) (n : ℕ) → sumBelow f (suc n) ≡ f 0 + sumBelow (λ i. f (suc i)) n
 sum-first f zero = omega arith
@@ -131,7 +128,7 @@ pub gains-are : (m : Module) (tasks : List ℕ) (k : ℕ) → tasks ≡ taskNumb
 unfolding gain
 gains-are m tasks k e l d =
     let ks : List Task = modeAt m k .tasks in
-    let n : length (taskNumbers ks) / 4 ≡ length ks = omega (arith, numbers-length ks) in
+    let n : length (taskNumbers ks) / 4 ≡ length ks = omega (arith, length-taskNumbers ks) in
     rw (e, n) (dues ks k l d)
 
 pub tasks-ready : (p : ℕ) (ks : List Task) → All (TaskRule p) ks → (i : ℕ) → i < length (taskNumbers ks) / 4 → look (taskNumbers ks) (4 * i) < look (taskNumbers ks) (4 * i + 3)

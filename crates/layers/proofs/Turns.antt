@@ -2,14 +2,14 @@
 -- stands where, a step later, that of d stands; each position has its mode time, so that a part's largest number is that of its mode times; and
 -- remainders of divisors of the period turn along. Assumes nothing.
 use mathlib.Core.Path.{_≡_, sym, ap, _∙_}
-use Prim.Native.Nat.{ℕ, zero, suc, _+_, _-_, _*_, _/_, _%_, _≤_, _<_}
+use Prim.Native.Nat.{ℕ, _+_, _-_, _*_, _/_, _%_, _≤_, _<_}
 use native.Mathlib.Nat.{le-antisymm, zero-add, zero-mod, mod-lt, mod-eq-of-lt, mod-add-mod, add-mod-right, add-mul-mod-self-left, div-add-mod, dvd-of-mod-eq-zero, mod-mod-of-dvd}
 use native.Mathlib.Decide.{decLt, ℕ-discrete}
 use native.Mathlib.Omega.{arith}
 use lib.Dec.{eqb}
 use borrow.Author.Tests.{lt-ltb, le-ltb, eq-eqb, ne-eqb}
 use Rattle.model.specs.Lists.{maxBelow}
-use Rattle.model.proofs.Lists.{le-maxBelow}
+use Rattle.model.proofs.Lists.{le-maxBelow, maxBelow-le}
 use Rattle.layers.specs.Layer.{next}
 
 module _ (p d : ℕ) (inside : d < p) where
@@ -85,10 +85,6 @@ module _ (p q : ℕ) (pos : 1 ≤ q) (divides : p % q ≡ 0) where
   turn-release d o n h = rw (mod-eq-of-lt h) at (turn-test d o (n + 1))
 
 -- The largest of a part is the largest of its mode times.
-
-pub maxBelow-le : (f : ℕ → ℕ) (c n : ℕ) → ((k : ℕ) → k < n → f k ≤ c) → maxBelow f n ≤ c
-maxBelow-le f c zero h = omega arith
-maxBelow-le f c (suc n) h = omega (arith, h n (omega arith), maxBelow-le f c n (λ k l. h k (omega arith)))
 
 pub turn-largest : (f g : ℕ → ℕ) (p n : ℕ) → ((d : ℕ) → d < p → f ((d + n) % p) ≡ g d) → maxBelow f p ≡ maxBelow g p
 turn-largest f g p n same = le-antisymm (maxBelow-le f (maxBelow g p) p upper) (maxBelow-le g (maxBelow f p) p lower)

@@ -19,6 +19,12 @@ pub struct Shape {
     pub starts: [u16; 9],
 }
 
+/// A module's shape, and its tasks as numbers.
+pub struct Engine {
+    pub shape: Shape,
+    pub numbers: [u16; 512],
+}
+
 pub fn larger(a: u32, b: u32) -> u32
     ensures { λ r. ⌜ r ≡ max a b ⌝ }
 {

@@ -15,9 +15,9 @@ use Rattle.model.specs.Lists.{when, sumOf}
 use Rattle.model.specs.Sheet.{Task, Module}
 use Rattle.model.specs.WellFormed.{TaskRule, ModuleRule}
 use Rattle.model.specs.Limits.{maxHorizon}
-use Rattle.model.specs.Run.{State, at, modeOf, Inside, Next, on, again, switched, releases, gainOf, gain}
-use Rattle.model.specs.Demand.{value}
-use Rattle.model.proofs.Lists.{all-mem}
+use Rattle.model.specs.Run.{State, at, modeAt, modeOf, Inside, Next, on, again, switched, releases, gainOf, gain}
+use Rattle.model.specs.Demand.{value, listedDemand}
+use Rattle.model.proofs.Lists.{all-mem, maxBelow-le}
 use Rattle.model.proofs.Runs.{best-next, rule-at, switch-rule, next-inside}
 
 -- Sums.
@@ -163,3 +163,8 @@ module _ (m : Module) (ok : ModuleRule m) where
 
   pub value-fits : (a b : ℕ) (s : State) → Inside m s → b - a ≤ maxHorizon → value m a b s < 65536
   value-fits a b s h l = omega (arith, value-bound a b s h)
+
+  -- and so from all states of listed modes
+  pub listed-bound : (L : ℕ) → listedDemand m L ≤ 16 * L
+  unfolding listedDemand
+  listed-bound L = maxBelow-le _ (16 * L) (length (m .modes)) (λ k h. maxBelow-le _ (16 * L) (modeAt m k .period) (λ d i. omega (arith, value-bound 0 L (at k d) i)))

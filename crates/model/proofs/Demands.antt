@@ -1,18 +1,20 @@
 -- `value` is the largest demand in an interval over all runs from a state; so state demand, interval demand and module demand are what computes them, and nothing else. Assumes nothing.
 use mathlib.Core.Path.{_≡_, refl, sym, _∙_, ap, subst, fun-ext}
-use mathlib.Core.Bool.{Bool, _&&_}
-use Prim.Native.Nat.{ℕ, zero, suc, pred, _+_, _-_, _≤_}
+use mathlib.Core.Bool.{Bool, true, false, _&&_}
+use Prim.Native.Nat.{ℕ, zero, suc, pred, _+_, _-_, _≤_, _<_}
 use native.Mathlib.Nat.{suc-add, suc-sub-suc, zero-sub, sub-zero, zero-add, le-trans}
 use native.Mathlib.Omega.{arith}
 use lib.Dec.{leb·suc-suc}
 use lib.ListN.{length}
-use Rattle.model.specs.Lists.{when, sumOf, maxOf, maxBelow, ticks}
+use Rattle.model.specs.Lists.{when, sumOf, maxOf, ticks}
 use Rattle.model.specs.Sheet.{Task, Module}
 use Rattle.model.specs.WellFormed.{ModuleRule}
-use Rattle.model.specs.Run.{State, at, first, modeAt, modeOf, Inside, Listed, Next, Run, later, IsRun, releases, gainOf, gain, demand}
-use Rattle.model.specs.Demand.{Largest, StateDemand, ModuleDemand, IntervalDemand, nexts, gainFirst, value, moduleDemand}
+use Rattle.model.specs.Run.{State, at, first, modeAt, modeOf, Inside, Reached, mode-0, Next, Run, later, IsRun, releases, gainOf, gain, demand}
+use Rattle.model.specs.Demand.{Largest, StateDemand, ModuleDemand, IntervalDemand, nexts, gainFirst, value, reached, inMode, moduleDemand}
 use Rattle.model.proofs.Lists.{largest-unique, le-maxOf, le-maxBelow, maxBelow-reached}
 use Rattle.model.proofs.Runs.{nexts-complete, best-next, after, after-run, later-run, second-next, period-positive, next-inside, some-run}
+use Rattle.model.proofs.Reached.{reached-listed}
+use Rattle.model.proofs.Rounds.{reached-true, true-reached}
 
 -- The demand of a run, by its first tick.
 
@@ -86,28 +88,46 @@ module _ (m : Module) (ok : ModuleRule m) where
   pub interval-demand : (a b : ℕ) → IntervalDemand m a b (value m a b first)
   interval-demand a b = value-largest b a first (period-positive m ok 0)
 
-  -- the largest state demand over the mode times of the mode k
-  inMode : ℕ → ℕ → ℕ
-  inMode L k = maxBelow (λ d. value m 0 L (at k d)) (modeAt m k .period)
+  -- a state of the mode has its largest state demand, and none has more
+  some-state : (L k : ℕ) → (d : ℕ) × (d < modeAt m k .period) × StateDemand m (at k d) L (inMode m L k)
+  some-state L k =
+      let d = maxBelow-reached (λ d. value m 0 L (at k d)) (modeAt m k .period) (period-positive m ok k) in
+      (d .0, d .1, subst (StateDemand m (at k (d .0)) L) (d .2) (state-demand (at k (d .0)) (d .1) L))
+
+  state-most : (L w : ℕ) (s : State) → Inside m s → StateDemand m s L w → w ≤ inMode m L (s .mode)
+  state-most L w s h r =
+      rw (largest-unique _ w (value m 0 L s) r (state-demand s h L)) (le-maxBelow (λ d. value m 0 L (at (s .mode) d)) (modeAt m (s .mode) .period) (s .time) h)
+
+  -- a reached mode is counted
+  reached-most : (L k : ℕ) → Reached m k → inMode m L k ≤ moduleDemand m L
+  unfolding moduleDemand
+  reached-most L k r =
+      let test : reached m k ≡ true = reached-true m k r in
+      rw (ap (λ (b : Bool). when b (inMode m L k)) test) at (le-maxBelow (λ j. when (reached m j) (inMode m L j)) (length (m .modes)) k (reached-listed m ok k r))
+
+  -- and the largest is that of a reached mode: of mode 0, if none has more
+  some-reached : (L : ℕ) → (k : ℕ) × Reached m k × (inMode m L k ≡ moduleDemand m L)
+  unfolding moduleDemand
+  some-reached L = pick (reached m (top .0)) refl (top .2)
+    where
+      top : (k : ℕ) × (k < length (m .modes)) × (when (reached m k) (inMode m L k) ≡ moduleDemand m L)
+      top = maxBelow-reached (λ k. when (reached m k) (inMode m L k)) (length (m .modes)) (ok .least)
+
+      pick : (b : Bool) → reached m (top .0) ≡ b → when (reached m (top .0)) (inMode m L (top .0)) ≡ moduleDemand m L → (k : ℕ) × Reached m k × (inMode m L k ≡ moduleDemand m L)
+      pick true e h = (top .0, true-reached m (top .0) e, rw e at h)
+      pick false e h = let none : 0 ≡ moduleDemand m L = rw e at h in (0, mode-0, omega (arith, reached-most L 0 mode-0))
 
   pub module-demand : (L : ℕ) → ModuleDemand m L (moduleDemand m L)
-  unfolding moduleDemand inMode
   module-demand L = (reach, bound)
     where
-      reach : (s : State) × Listed m s × StateDemand m s L (moduleDemand m L)
-      reach =
-          let k = maxBelow-reached (inMode L) (length (m .modes)) (ok .least) in
-          let d = maxBelow-reached (λ d. value m 0 L (at (k .0) d)) (modeAt m (k .0) .period) (period-positive m ok (k .0)) in
-          let s : State = at (k .0) (d .0) in
-          (s, record { mode = k .1; time = d .1 }, subst (StateDemand m s L) (d .2 ∙ k .2) (state-demand s (d .1) L))
+      bound : (w : ℕ) → (s : State) × Inside m s × Reached m (s .mode) × StateDemand m s L w → w ≤ moduleDemand m L
+      bound w r = le-trans (state-most L w (r .0) (r .1) (r .3)) (reached-most L (r .0 .mode) (r .2))
 
-      bound : (w : ℕ) → (s : State) × Listed m s × StateDemand m s L w → w ≤ moduleDemand m L
-      bound w r =
-          let s = r .0 in
-          let e : w ≡ value m 0 L s = largest-unique _ w (value m 0 L s) (r .2) (state-demand s (r .1 .time) L) in
-          let in-mode : value m 0 L s ≤ inMode L (s .mode) = le-maxBelow (λ d. value m 0 L (at (s .mode) d)) (modeAt m (s .mode) .period) (s .time) (r .1 .time) in
-          let in-all : inMode L (s .mode) ≤ moduleDemand m L = le-maxBelow (inMode L) (length (m .modes)) (s .mode) (r .1 .mode) in
-          rw e (le-trans in-mode in-all)
+      reach : (s : State) × Inside m s × Reached m (s .mode) × StateDemand m s L (moduleDemand m L)
+      reach =
+          let k = some-reached L in
+          let d = some-state L (k .0) in
+          (at (k .0) (d .0), d .1, k .1, subst (StateDemand m (at (k .0) (d .0)) L) (k .2) (d .2))
 
 -- And no other number is the demand.
 

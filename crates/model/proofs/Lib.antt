@@ -1,5 +1,9 @@
 pub mod Lists
+pub mod Flat
 pub mod Runs
+pub mod Reaching
+pub mod Reached
+pub mod Rounds
 pub mod Demands
 pub mod Division
 pub mod ModeDemands
@@ -7,3 +11,4 @@ pub mod Verdicts
 pub mod Tapes
 pub mod Bounds
 pub mod Summing
+pub mod Emptied

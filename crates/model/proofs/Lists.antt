@@ -1,5 +1,7 @@
--- Laws of largest values, of sums, and of what holds of each element of a list. Assumes nothing.
+-- Laws of two tests, of largest values, of sums, and of what holds of each element of a list. Assumes nothing.
 use mathlib.Core.Path.{_≡_, refl, sym, _∙_, ap₂}
+use mathlib.Core.Logic.{_⊎_, inl, inr}
+use mathlib.Core.Bool.{Bool, true, false, _||_}
 use mathlib.Core.List.{List, [], _∷_, map, List·Memᴰ, List·Memᴰ·head, List·Memᴰ·tail, List·Memᴰ·not-nil}
 use Prim.Native.Nat.{ℕ, zero, suc, _+_, _≤_, _<_, max}
 use native.Mathlib.Nat.{add-zero, suc-add, add-suc, le-max-left, le-max-right, le-antisymm, le-trans, le-of-suc-le-suc}
@@ -7,6 +9,21 @@ use native.Mathlib.Decide.{decLe, ℕ-discrete}
 use native.Mathlib.Omega.{arith}
 use lib.ListN.{length, getD}
 use Rattle.model.specs.Lists.{sumOf, maxOf, maxBelow, ticks, All, AllFrom, Pairwise, SumIs, IsLargest}
+
+-- Either of two tests.
+
+pub or-either : (b c : Bool) → b || c ≡ true → (b ≡ true) ⊎ (c ≡ true)
+or-either true c e = inl refl
+or-either false c e = inr e
+
+pub or-left : (b c : Bool) → b ≡ true → b || c ≡ true
+or-left b c e = rw e
+
+pub or-right : (b c : Bool) → c ≡ true → b || c ≡ true
+or-right true c e = refl
+or-right false c e = e
+
+-- The largest of what is attained.
 
 pub largest-unique : (P : ℕ → Type 0) (v w : ℕ) → IsLargest P v → IsLargest P w → v ≡ w
 largest-unique P v w hv hw = le-antisymm (hw .1 v (hv .0)) (hv .1 w (hw .0))
@@ -30,6 +47,14 @@ pub maxOf-reached : {A : Type 0} (f : A → ℕ) (x : A) (xs : List A) → List�
 maxOf-reached f x [] h = absurd (List·Memᴰ·not-nil h)
 maxOf-reached f x (z ∷ xs) h = maxOf-cons f z xs
 
+pub maxOf-same : {A : Type 0} (f g : A → ℕ) (xs : List A) → ((x : A) → List·Memᴰ x xs → f x ≡ g x) → maxOf f xs ≡ maxOf g xs
+maxOf-same f g [] h = refl
+maxOf-same f g (x ∷ xs) h = omega (arith, h x (List·Memᴰ·head refl), maxOf-same f g xs (λ y i. h y (List·Memᴰ·tail i)))
+
+pub maxOf-zero : {A : Type 0} (xs : List A) → maxOf (λ x. 0) xs ≡ 0
+maxOf-zero [] = refl
+maxOf-zero (x ∷ xs) = omega (arith, maxOf-zero xs)
+
 -- The largest value below a number.
 
 pub le-maxBelow : (f : ℕ → ℕ) (n k : ℕ) → k < n → f k ≤ maxBelow f n
@@ -51,6 +76,14 @@ maxBelow-suc f (suc n) = pick (maxBelow-suc f n) (decLe (maxBelow f (suc n)) (f 
 pub maxBelow-reached : (f : ℕ → ℕ) (n : ℕ) → 1 ≤ n → (k : ℕ) × (k < n) × (f k ≡ maxBelow f n)
 maxBelow-reached f zero h = absurd (omega arith)
 maxBelow-reached f (suc n) h = maxBelow-suc f n
+
+pub maxBelow-le : (f : ℕ → ℕ) (c n : ℕ) → ((k : ℕ) → k < n → f k ≤ c) → maxBelow f n ≤ c
+maxBelow-le f c zero h = omega arith
+maxBelow-le f c (suc n) h = omega (arith, h n (omega arith), maxBelow-le f c n (λ k l. h k (omega arith)))
+
+pub maxBelow-same : (f g : ℕ → ℕ) (n : ℕ) → ((k : ℕ) → k < n → f k ≡ g k) → maxBelow f n ≡ maxBelow g n
+maxBelow-same f g zero h = refl
+maxBelow-same f g (suc n) h = omega (arith, h n (omega arith), maxBelow-same f g n (λ k l. h k (omega arith)))
 
 -- What holds of each element.
 

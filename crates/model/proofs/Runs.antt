@@ -112,6 +112,9 @@ second-next m s ρ r = rw (r .starts) at (r .steps 0)
 
 -- What the rules of a module give.
 
+pub idle-rule : (modes k : ℕ) → ModeRule modes k idle
+idle-rule modes k = record { least = omega arith; most = omega arith; count = omega arith; tasks = tt; switches = tt; once = tt }
+
 module _ (m : Module) (ok : ModuleRule m) where
   pub mode-rule : (k : ℕ) → k < length (m .modes) → ModeRule (length (m .modes)) k (modeAt m k)
   mode-rule k h = rw zero-add at (allFrom-at (ModeRule (length (m .modes))) idle 0 (m .modes) (ok .modes) k h)
@@ -122,7 +125,7 @@ module _ (m : Module) (ok : ModuleRule m) where
     where
       pick : Dec (k < length (m .modes)) → ModeRule (length (m .modes)) k (modeAt m k)
       pick (yes h) = mode-rule k h
-      pick (no h) = rw (List·getD-eq-default (m .modes) idle {n = k} (omega arith)) (record { least = omega arith; most = omega arith; count = omega arith; tasks = tt; switches = tt; once = tt })
+      pick (no h) = rw (List·getD-eq-default (m .modes) idle {n = k} (omega arith)) (idle-rule _ k)
 
   pub period-positive : (k : ℕ) → 1 ≤ modeAt m k .period
   period-positive k = rule-at k .least

@@ -1,13 +1,13 @@
 -- Mode demand, state demand, module demand, and the largest demand in an interval: each as a relation over runs, and what computes it. Assumes nothing.
 use mathlib.Core.Path.{_≡_}
-use mathlib.Core.Bool.{Bool, true, false}
+use mathlib.Core.Bool.{Bool, true, false, _&&_, _||_}
 use mathlib.Core.List.{List, [], _∷_}
 use Prim.Native.Nat.{ℕ, zero, suc, pred, _+_, _-_, _*_, _/_, _%_, _<_}
 use lib.Dec.{ltb, eqb}
 use lib.ListN.{length}
-use Rattle.model.specs.Lists.{sumOf, maxOf, maxBelow, IsLargest}
-use Rattle.model.specs.Sheet.{Task, Switch, Mode, Module}
-use Rattle.model.specs.Run.{State, at, first, modeAt, modeOf, Listed, Run, IsRun, gain, demand}
+use Rattle.model.specs.Lists.{when, sumOf, maxOf, maxBelow, anyBelow, IsLargest}
+use Rattle.model.specs.Sheet.{Task, Switch, Mode, Module, named}
+use Rattle.model.specs.Run.{State, at, first, modeAt, modeOf, Inside, Reached, Run, IsRun, gain, demand}
 
 -- What the demands are.
 
@@ -18,9 +18,9 @@ Largest m s F v = IsLargest (λ w. (ρ : Run) × IsRun m s ρ × (F ρ ≡ w)) v
 abbrev pub StateDemand : Module → State → ℕ → ℕ → Type 0
 StateDemand m s L v = Largest m s (λ ρ. demand m ρ 0 L) v
 
--- the largest state demand over all states of all listed modes
+-- the largest state demand over all states of reached modes
 abbrev pub ModuleDemand : Module → ℕ → ℕ → Type 0
-ModuleDemand m L v = IsLargest (λ w. (s : State) × Listed m s × StateDemand m s L w) v
+ModuleDemand m L v = IsLargest (λ w. (s : State) × Inside m s × Reached m (s .mode) × StateDemand m s L w) v
 
 -- the largest demand in a to b of any run from tick 0
 abbrev pub IntervalDemand : Module → ℕ → ℕ → ℕ → Type 0
@@ -73,5 +73,23 @@ unfoldable pub value : Module → ℕ → ℕ → State → ℕ
 value m a zero s = 0
 value m a (suc b) s = gainFirst m a (suc b) s + maxOf (value m (pred a) b) (nexts m s)
 
+-- whether the mode k is reached in n rounds: in none, mode 0; in each round more, what a mode that has been reached lists
+unfoldable pub reachedIn : Module → ℕ → ℕ → Bool
+reachedIn m zero k = eqb k 0
+reachedIn m (suc n) k = reachedIn m n k || anyBelow (λ j. reachedIn m n j && named k (modeAt m j .switches)) (length (m .modes))
+
+-- as many rounds as there are modes reach all that is reached
+unfoldable pub reached : Module → ℕ → Bool
+reached m k = reachedIn m (length (m .modes)) k
+
+-- the largest demand in L ticks from the mode times of the mode k
+abbrev pub inMode : Module → ℕ → ℕ → ℕ
+inMode m L k = maxBelow (λ d. value m 0 L (at k d)) (modeAt m k .period)
+
+-- from all states of listed modes
+unfoldable pub listedDemand : Module → ℕ → ℕ
+listedDemand m L = maxBelow (inMode m L) (length (m .modes))
+
+-- from all states of reached modes
 unfoldable pub moduleDemand : Module → ℕ → ℕ
-moduleDemand m L = maxBelow (λ k. maxBelow (λ d. value m 0 L (at k d)) (modeAt m k .period)) (length (m .modes))
+moduleDemand m L = maxBelow (λ k. when (reached m k) (inMode m L k)) (length (m .modes))

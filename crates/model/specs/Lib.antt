@@ -5,5 +5,6 @@ pub mod Limits
 pub mod WellFormed
 pub mod Run
 pub mod Demand
+pub mod Emptied
 pub mod Verdict
 pub mod Tape

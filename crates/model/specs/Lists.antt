@@ -1,6 +1,6 @@
 -- Sums, largest values, and the numbered elements of a list. Assumes nothing.
 use mathlib.Core.Path.{_≡_}
-use mathlib.Core.Bool.{Bool, true, false}
+use mathlib.Core.Bool.{Bool, true, false, _||_}
 use mathlib.Core.List.{List, [], _∷_}
 use Prim.Native.Nat.{ℕ, zero, suc, _+_, _≤_, max}
 
@@ -21,6 +21,11 @@ maxOf f (x ∷ xs) = max (f x) (maxOf f xs)
 abbrev pub maxBelow : (ℕ → ℕ) → ℕ → ℕ
 maxBelow f zero = 0
 maxBelow f (suc n) = max (f n) (maxBelow f n)
+
+-- whether q holds of a number below n
+abbrev pub anyBelow : (ℕ → Bool) → ℕ → Bool
+anyBelow q zero = false
+anyBelow q (suc n) = q n || anyBelow q n
 
 -- the sum of f over the n ticks from t on
 abbrev pub ticks : (ℕ → ℕ) → ℕ → ℕ → ℕ

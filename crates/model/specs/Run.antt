@@ -1,4 +1,4 @@
--- Runs, and the demand of a run (document 01, 'Runs'). Assumes nothing.
+-- Runs, and the demand of a run (document 01, 'Runs'); the modes that are reached (document 02, b). Assumes nothing.
 use mathlib.Core.Path.{_≡_}
 use mathlib.Core.Bool.{Bool, _&&_}
 use mathlib.Core.List.{[], List·Memᴰ}
@@ -40,6 +40,11 @@ pub record Listed (m : Module) (s : State) : Type 0 where
   pub mode : s .mode < length (m .modes)
   pub time : Inside m s
 
+-- A mode is reached: mode 0 is, and so is the target of a switch that a reached mode lists.
+pub data Reached (m : Module) : ℕ → Type 0 where
+  mode-0 : Reached m 0
+  target-of : (k : ℕ) (w : Switch) → Reached m k → List·Memᴰ w (modeAt m k .switches) → Reached m (w .target)
+
 -- The state after one tick is one of these, and nothing else.
 pub data Next (m : Module) (s t : State) : Type 0 where
   on : s .time + 1 < modeOf m s .period → t ≡ at (s .mode) (s .time + 1) → Next m s t
@@ -58,6 +63,14 @@ later ρ t = ρ (suc t)
 pub record IsRun (m : Module) (s : State) (ρ : Run) : Type 0 where
   pub starts : ρ 0 ≡ s
   pub steps : (t : ℕ) → Next m (ρ t) (ρ (suc t))
+
+-- a run that begins in the state s has the state t at tick a
+abbrev pub ReachFrom : Module → State → ℕ → State → Type 0
+ReachFrom m s a t = (ρ : Run) × IsRun m s ρ × (ρ a ≡ t)
+
+-- a run of the module from tick 0 has the state s at tick a
+abbrev pub Reach : Module → ℕ → State → Type 0
+Reach m a s = ReachFrom m first a s
 
 -- The task releases an instance where its mode is current and the mode time, divided by its period, leaves its offset.
 abbrev pub releases : State → Task → Bool

@@ -1,6 +1,8 @@
 -- The sheet's values (document 01, 'The sheet'). Records, so that a later field joins its record. Assumes nothing.
-use mathlib.Core.List.{List, []}
+use mathlib.Core.Bool.{Bool, false, _||_}
+use mathlib.Core.List.{List, [], _∷_}
 use Prim.Native.Nat.{ℕ}
+use lib.Dec.{eqb}
 use lib.ListN.{length, getD}
 use Rattle.model.specs.Lists.{sumOf}
 
@@ -25,6 +27,11 @@ pub record Module : Type 0 where
 pub record Sheet : Type 0 where
   pub horizon : ℕ
   pub modules : List Module
+
+-- whether one of the switches names the target
+abbrev pub named : ℕ → List Switch → Bool
+named target [] = false
+named target (w ∷ ws) = eqb target (w .target) || named target ws
 
 -- what a number names that no module of the sheet has
 abbrev pub absent : Module

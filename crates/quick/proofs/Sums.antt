@@ -1,6 +1,6 @@
 -- The row of sums as the modules' demands are added, one module after another. Assumes nothing.
 use mathlib.Core.Path.{_≡_, refl, _∙_, ap}
-use mathlib.Core.List.{List, []}
+use mathlib.Core.List.{List}
 use Prim.Native.Nat.{ℕ, _+_, _≤_, _<_}
 use native.Mathlib.Omega.{arith}
 use lib.ListN.{length, take}
@@ -10,15 +10,16 @@ use Rattle.model.specs.Sheet.{Sheet, absent, moduleAt}
 use Rattle.model.specs.Limits.{workNumbers}
 use Rattle.model.specs.WellFormed.{ModuleRule, WellFormed}
 use Rattle.model.specs.Demand.{moduleDemand}
+use Rattle.model.specs.Emptied.{reachedPart}
 use Rattle.model.specs.Verdict.{quickSum}
 use Rattle.model.proofs.Lists.{all-at}
 use Rattle.layers.specs.declared.Shape.{Shape}
 use Rattle.layers.specs.Step.{look, Cleared}
 use Rattle.layers.specs.Layer.{Told}
 use Rattle.sums.specs.Sums.{Fits, Summed}
-use Rattle.sums.proofs.Sums.{demand-bound}
 use Rattle.quick.specs.Sums.{ModuleAdded, SumsOf}
 use Rattle.model.proofs.Summing.{sum-more, sum-most}
+use Rattle.model.proofs.Emptied.{reached-part, module-bound}
 
 -- the sum of the demands in L ticks of the first k modules
 abbrev sumTo : Sheet → ℕ → ℕ → ℕ
@@ -31,11 +32,12 @@ pub record SumsTo (s : Sheet) (n k : ℕ) (w w′ : List ℕ) : Type 0 where
   pub above : (x : ℕ) → workNumbers ≤ x → look w′ x ≡ look w x
 
 module _ (s : Sheet) (n : ℕ) where
-  -- the demands of the module that the numbers tell
-  pub module-added : (k : ℕ) (shape : Shape) (numbers w w′ : List ℕ) → ModuleRule (moduleAt s k) → Told (moduleAt s k) shape numbers → Summed shape numbers n w w′ → ModuleAdded s n k w w′
+  -- the demands of a module whose reached modes the numbers tell
+  pub module-added : (k : ℕ) (shape : Shape) (numbers w w′ : List ℕ) → ModuleRule (reachedPart (moduleAt s k)) → Told (reachedPart (moduleAt s k)) shape numbers → Summed shape numbers n w w′
+      → ModuleAdded s n k w w′
   module-added k shape numbers w w′ rule told done = record {
     len = done .beside .len;
-    sums = λ L h l. done .sums _ rule told L h l;
+    sums = λ L h l. omega (arith, done .sums _ rule told L h l, reached-part (moduleAt s k) L);
     above = λ x h. done .beside .above x (omega arith);
   }
 
@@ -55,7 +57,7 @@ module _ (s : Sheet) (n : ℕ) where
     sums-fit k w w′ number done L h l = omega (arith, done .sums L h l, sum-most (λ m. moduleDemand m L) absent 32000 (s .modules) each k (omega arith), ok .modules-most)
       where
         each : (j : ℕ) → j < length (s .modules) → moduleDemand (moduleAt s j) L ≤ 32000
-        each j i = omega (arith, demand-bound (moduleAt s j) (all-at ModuleRule absent (s .modules) (ok .modules) j i) L, ok .horizon-most)
+        each j i = omega (arith, module-bound (moduleAt s j) (all-at ModuleRule absent (s .modules) (ok .modules) j i) L, ok .horizon-most)
 
     -- from the numbers before they were cleared
     pub sums-end : (k : ℕ) (w w₀ w′ : List ℕ) → k ≡ length (s .modules) → Cleared (n + 1) w w₀ → SumsTo s n k w₀ w′ → SumsOf s n w w′

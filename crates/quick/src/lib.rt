@@ -49,7 +49,7 @@ fn add_module(sheet: &[u8], work: &mut [u32], k: usize, n: usize, rows: [ModuleR
     ensures { λ _. ⌜ ModuleAdded (sheetIn (now (sheet .entry))) n k (now (work .entry)) (now (work .exit)) ⌝ }
 {
     let row = rows[k];
-    let engine = modules::engine_of(sheet, k, row);
+    let engine = modules::reached_engine_of(sheet, k, row);
     let shape = engine.shape;
     let numbers = engine.numbers;
     sums::add_demands(work, n, shape, &numbers);

@@ -1,4 +1,4 @@
-// The largest demand of a module in so many ticks: from one of its states, and from any.
+// The largest demand of a module in so many ticks: from one of its states, and from any of a reached mode.
 ghost use mathlib.Core.Path.{_≡_};
 ghost use Prim.Native.Nat.{_<_};
 ghost use lib.Dec.{leb};
@@ -17,8 +17,8 @@ use judge::Judged;
 use judge::MEMORY_TOO_SMALL;
 use judge::OUT_OF_RANGE;
 use judge::Sheet;
+use layers::Engine;
 use memory::LAYER_NUMBERS;
-use modules::Engine;
 
 // Whether a call is refused before it is answered.
 enum Asked {
@@ -183,14 +183,15 @@ fn module_given(sheet: &[u8], module: usize, length: usize, work: &mut [u32]) ->
     requires { ⌜ ModuleMet (now sheet) «module» length (now work) ⌝ }
     ensures { λ r. ⌜ ModuleDemanded (now (sheet .entry)) «module» length (now (work .entry)) (now (work .exit)) r ⌝ }
 {
-    let engine = engine_at(sheet, module);
+    let row = table::module_row(sheet, module);
+    let engine = modules::reached_engine_of(sheet, module, row);
     let shape = engine.shape;
     let numbers = engine.numbers;
     let demand = sums::largest_demand(&mut work[0..LAYER_NUMBERS], length, shape, &numbers);
     Demand::Given(Amount { demand })
 }
 
-/// The largest demand in so many ticks over all runs of the module, from any of its states.
+/// The largest demand in so many ticks over all runs of the module, from any state of a mode that is reached from mode 0.
 /// A sheet's fault goes before an argument out of range (9), and that before too little memory (10).
 pub fn module_demand(sheet: &[u8], module: usize, length: usize, work: &mut [u32]) -> Demand
     ensures { λ r. ⌜ ModuleDemanded (now (sheet .entry)) «module» length (now (work .entry)) (now (work .exit)) r ⌝ }

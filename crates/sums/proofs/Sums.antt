@@ -11,25 +11,17 @@ use Rattle.model.specs.Limits.{workNumbers}
 use Rattle.model.specs.Lists.{maxBelow}
 use Rattle.model.specs.Sheet.{Module}
 use Rattle.model.specs.WellFormed.{ModuleRule}
-use Rattle.model.specs.Run.{at, modeAt}
-use Rattle.model.specs.Demand.{moduleDemand}
-use Rattle.model.proofs.Bounds.{value-bound}
+use Rattle.model.specs.Demand.{listedDemand}
+use Rattle.model.proofs.Bounds.{listed-bound}
 use Rattle.layers.specs.declared.Shape.{Shape}
 use Rattle.layers.specs.Step.{look, total, period, Cleared}
 use Rattle.layers.specs.Layer.{Layer, Told, Tells, IsLayer, Advanced}
 use Rattle.layers.proofs.Sums.{sum-before}
-use Rattle.layers.proofs.Turns.{maxBelow-le}
 use Rattle.layers.proofs.Bounds.{states-bound}
 use Rattle.layers.proofs.Parts.{cleared-at, back-below, back-above}
 use Rattle.layers.proofs.Layers.{states-told, layer-start, layer-largest}
 use Rattle.memory.specs.Map.{layerNumbers, layerFrom, marksFrom, layerPart}
-use Rattle.sums.specs.Sums.{Layered, Reached, Demands, Added, Beside, Summed}
-
--- The demand of a module is at most 16 for each tick.
-
-pub demand-bound : (m : Module) → ModuleRule m → (L : ℕ) → moduleDemand m L ≤ 16 * L
-unfolding moduleDemand
-demand-bound m ok L = maxBelow-le _ (16 * L) (length (m .modes)) (λ k h. maxBelow-le _ (16 * L) (modeAt m k .period) (λ d i. omega (arith, value-bound m ok 0 L (at k d) i)))
+use Rattle.sums.specs.Sums.{Layered, RunTo, Demands, Added, Beside, Summed}
 
 -- The layer's part, lent and back with ys in it.
 
@@ -73,22 +65,22 @@ module _ (s : Shape) (numbers : List ℕ) where
   pub is-layer : (L : ℕ) (w : List ℕ) → Tells s numbers → Layered s numbers L w → IsLayer s numbers L w
   is-layer L w t layer = record { owner = t .owner; rule = t .rule; told = t .told; layer = layer (t .owner) (t .rule) (t .told) }
 
-  pub reached-start : (w w′ : List ℕ) (n : ℕ) → n ≡ total (s .periods) (s .modes) → n ≤ length w → Cleared n w w′ → Reached s numbers 0 w′ w′
-  reached-start w w′ n e h c = record { len = refl; layer = λ m ok told. layer-start m s numbers told w w′ (omega arith) (cleared-at n _ e c); above = λ x i. refl }
+  pub run-start : (w w′ : List ℕ) (n : ℕ) → n ≡ total (s .periods) (s .modes) → n ≤ length w → Cleared n w w′ → RunTo s numbers 0 w′ w′
+  run-start w w′ n e h c = record { len = refl; layer = λ m ok told. layer-start m s numbers told w w′ (omega arith) (cleared-at n _ e c); above = λ x i. refl }
 
   pub layered-more : (L : ℕ) (w w′ : List ℕ) → Advanced s numbers L w w′ → Layered s numbers L w → Layered s numbers (L + 1) w′
   layered-more L w w′ a layer m ok told = a .layer m ok told (layer m ok told)
 
-  pub reached-more : (L : ℕ) (w w′ w″ : List ℕ) → Reached s numbers L w w′ → Advanced s numbers L w′ w″ → Reached s numbers (L + 1) w w″
-  reached-more L w w′ w″ r a = record {
+  pub run-more : (L : ℕ) (w w′ w″ : List ℕ) → RunTo s numbers L w w′ → Advanced s numbers L w′ w″ → RunTo s numbers (L + 1) w w″
+  run-more L w w′ w″ r a = record {
     len = a .len ∙ r .len;
     layer = layered-more L w′ w″ a (r .layer);
     above = λ x h. a .above x h ∙ r .above x h;
   }
 
   -- from the numbers before they were cleared
-  pub reached-end : (n K L : ℕ) (w w₀ w′ : List ℕ) → n ≡ total (s .periods) (s .modes) → Cleared n w w₀ → K ≡ L → Reached s numbers K w₀ w′ → Reached s numbers L w w′
-  reached-end n K L w w₀ w′ e c same r = record {
+  pub run-end : (n K L : ℕ) (w w₀ w′ : List ℕ) → n ≡ total (s .periods) (s .modes) → Cleared n w w₀ → K ≡ L → RunTo s numbers K w₀ w′ → RunTo s numbers L w w′
+  run-end n K L w w₀ w′ e c same r = record {
     len = r .len ∙ c .len;
     layer = λ m ok told. subst (λ (x : ℕ). Layer m x w′) same (r .layer m ok told);
     above = λ x h. r .above x h ∙ c .above x (omega arith);
@@ -98,7 +90,7 @@ module _ (s : Shape) (numbers : List ℕ) where
   layer-demand L n v w e same layer m ok told = same ∙ ap (maxBelow (look w)) e ∙ layer-largest m s numbers told L w (layer m ok told)
 
   demands-bound : Tells s numbers → (L v : ℕ) → Demands s numbers L v → v ≤ 16 * L
-  demands-bound t L v h = omega (arith, h (t .owner) (t .rule) (t .told), demand-bound (t .owner) (t .rule) L)
+  demands-bound t L v h = omega (arith, h (t .owner) (t .rule) (t .told), listed-bound (t .owner) (t .rule) L)
 
   -- The row of sums.
 
@@ -106,7 +98,7 @@ module _ (s : Shape) (numbers : List ℕ) where
   pub part-start : (n : ℕ) (w ys : List ℕ) → Tells s numbers → workNumbers ≤ length w → n ≡ total (s .periods) (s .modes) → Cleared n (layerPart w) ys → Layered s numbers 0 (layerPart (back w ys))
   part-start n w ys t room e c m ok told =
       let fits : n ≤ length (layerPart w) = omega (arith, told-states t, part-size w room) in
-      subst (Layer m 0) (sym (back-part w ys room (c .len))) (reached-start (layerPart w) ys n e fits c .layer m ok told)
+      subst (Layer m 0) (sym (back-part w ys room (c .len))) (run-start (layerPart w) ys n e fits c .layer m ok told)
 
   -- no sum is too large
   pub sum-fits : (L d : ℕ) (w ys : List ℕ) → Tells s numbers → L < 2000 → workNumbers ≤ length w → look w (L + 1) ≤ 7 * 32000 → Demands s numbers (L + 1) d → look (back w ys) (L + 1) + d < 2 ^ 32
@@ -145,7 +137,7 @@ module _ (s : Shape) (numbers : List ℕ) where
       old : Beside n w w′
       old = done .beside
 
-      pick : (m : Module) → ModuleRule m → Told m s numbers → (L : ℕ) → 1 ≤ L → L ≤ n + 1 → Dec (L ≤ n) → look w″ L ≡ look w L + moduleDemand m L
+      pick : (m : Module) → ModuleRule m → Told m s numbers → (L : ℕ) → 1 ≤ L → L ≤ n + 1 → Dec (L ≤ n) → look w″ L ≡ look w L + listedDemand m L
       pick m ok told L h l (yes a) = new .others L (omega arith) (λ e. omega arith) ∙ done .sums m ok told L h a
       pick m ok told L h l (no a) =
           let last : L ≡ n + 1 = omega arith in

@@ -1,4 +1,4 @@
-// The demands of one module that numbers tell, and a row of sums of demands, one for each length.
+// The largest demands of one module that numbers tell, from one state and from any, and a row of sums of these, one for each length.
 ghost use mathlib.Core.Path.{_≡_};
 ghost use Prim.Native.Nat.{_+_, _*_, _<_, _≤_};
 ghost use lib.ListN.{length};
@@ -11,7 +11,7 @@ ghost use Rattle.model.specs.Verdict.{quickFrom};
 ghost use Rattle.layers.specs.Step.{look, total, period, Cleared};
 ghost use Rattle.layers.specs.Layer.{Told, Tells};
 ghost use Rattle.memory.specs.Map.{layerNumbers, layerPart};
-ghost use Rattle.sums.specs.Sums.{Layered, Reached, Demands, Fits, Added, Summed, quickOf};
+ghost use Rattle.sums.specs.Sums.{Layered, RunTo, Demands, Fits, Added, Summed, quickOf};
 use layers::Shape;
 use memory::LAYER_FROM;
 use memory::MARKS_FROM;
@@ -35,7 +35,7 @@ fn states_of(shape: Shape) -> usize
 // The layer for l ticks. What lies past the module's states stays.
 pub fn run_to(layer: &mut [u32], l: usize, shape: Shape, numbers: &[u16])
     requires { ⌜ (l ≤ 2000) × (layerNumbers ≤ length (now layer)) × (Tells shape (now numbers)) ⌝ }
-    ensures { λ _. ⌜ Reached shape (now (numbers .entry)) l (now (layer .entry)) (now (layer .exit)) ⌝ }
+    ensures { λ _. ⌜ RunTo shape (now (numbers .entry)) l (now (layer .entry)) (now (layer .exit)) ⌝ }
 {
     layers::clear(layer, states_of(shape));
     let mut i = 0;
@@ -72,7 +72,7 @@ pub fn largest_demand(layer: &mut [u32], l: usize, shape: Shape, numbers: &[u16]
     layers::largest(layer, states_of(shape))
 }
 
-// The layer for l ticks becomes that for l + 1; the demand in l + 1 ticks is handed back.
+// The layer for l ticks becomes that for l + 1; the largest demand in l + 1 ticks from any state is handed back.
 fn next_demand(layer: &mut [u32], l: usize, shape: Shape, numbers: &[u16]) -> u32
     requires { ⌜ (l < 2000) × (layerNumbers ≤ length (now layer)) × (Tells shape (now numbers)) × (Layered shape (now numbers) l (now layer)) ⌝ }
     ensures { λ r. ⌜ (length (now (layer .exit)) ≡ length (now (layer .entry))) × (Layered shape (now (numbers .entry)) (l + 1) (now (layer .exit))) × (Demands shape (now (numbers .entry)) (l + 1) r) ⌝ }
@@ -81,7 +81,7 @@ fn next_demand(layer: &mut [u32], l: usize, shape: Shape, numbers: &[u16]) -> u3
     layers::largest(layer, states_of(shape))
 }
 
-// The demand in l + 1 ticks is added to its sum.
+// The largest demand in l + 1 ticks from any state is added to its sum.
 fn add_next(work: &mut [u32], l: usize, shape: Shape, numbers: &[u16])
     requires { ⌜ (l < 2000) × (workNumbers ≤ length (now work)) × (look (now work) (l + 1) ≤ 7 * 32000) × (Tells shape (now numbers)) × (Layered shape (now numbers) l (layerPart (now work))) ⌝ }
     ensures { λ _. ⌜ Added shape (now (numbers .entry)) l (now (work .entry)) (now (work .exit)) ⌝ }
@@ -91,7 +91,7 @@ fn add_next(work: &mut [u32], l: usize, shape: Shape, numbers: &[u16])
     work[at] = work[at] + more;
 }
 
-// To the sum of each length from 1 to the horizon the demand in so many ticks is added. The layer stands behind the sums.
+// To the sum of each length from 1 to the horizon the largest demand in so many ticks from any state is added. The layer stands behind the sums.
 pub fn add_demands(work: &mut [u32], horizon: usize, shape: Shape, numbers: &[u16])
     requires { ⌜ (horizon ≤ 2000) × (workNumbers ≤ length (now work)) × (Fits horizon (now work)) × (Tells shape (now numbers)) ⌝ }
     ensures { λ _. ⌜ Summed shape (now (numbers .entry)) horizon (now (work .entry)) (now (work .exit)) ⌝ }

@@ -6,10 +6,9 @@ use Prim.Native.Nat.{ℕ, zero, suc, _+_, _≤_, _<_}
 use native.Mathlib.Nat.{le-of-suc-le-suc}
 use native.Mathlib.Omega.{arith}
 use lib.ListN.{length, getD, List·getD-eq-default}
-use Rattle.model.specs.Sheet.{Mode, Module, Sheet, moduleAt}
+use Rattle.model.specs.Sheet.{Mode, Module, Sheet, moduleAt, named}
 use Rattle.model.specs.Run.{modeAt, idle}
 use Rattle.format.specs.Record.{fieldsOf, fieldAt}
-use Rattle.format.specs.Rules.{named}
 use Rattle.format.specs.Judgement.{sheetIn, Accepted}
 use Rattle.format.specs.Refusal.{AreBytes}
 use Rattle.format.specs.Place.{modePlace}

@@ -1,5 +1,5 @@
 -- The tasks of a module as numbers: how many there are, and where each stands in the bytes of an accepted sheet. Assumes nothing.
-use mathlib.Core.Path.{_≡_, refl, _∙_, ap}
+use mathlib.Core.Path.{_≡_, _∙_, ap}
 use mathlib.Core.List.{List, [], _∷_, _++_, append-nil}
 use Prim.Native.Nat.{ℕ, zero, suc, _+_, _*_, _/_, _%_, _≤_, _<_}
 use native.Mathlib.Omega.{arith}
@@ -18,13 +18,10 @@ use Rattle.format.proofs.RoundTrip.{accepted-wellFormed}
 use Rattle.place.specs.There.{ModeThere}
 use Rattle.place.proofs.Standing.{task-record}
 use Rattle.model.specs.Flat.{taskNumbers}
+use Rattle.model.proofs.Flat.{length-taskNumbers}
 use Rattle.table.specs.Numbers.{modeNumbers, startOf}
 
 -- How many.
-
-pub length-taskNumbers : (ks : List Task) → length (taskNumbers ks) ≡ 4 * length ks
-length-taskNumbers [] = refl
-length-taskNumbers (k ∷ ks) = omega (arith, length-taskNumbers ks)
 
 -- the numbers of one mode more
 pub numbers-step : (m : Module) (j : ℕ) → j < length (m .modes) → modeNumbers (take (suc j) (m .modes)) ≡ modeNumbers (take j (m .modes)) ++ taskNumbers (modeAt m j .tasks)

@@ -13,8 +13,9 @@ use Rattle.format.specs.Refusal.{AreBytes}
 use Rattle.place.specs.There.{ModeThere, SomeMode}
 use Rattle.place.proofs.Counting.{some-within}
 use Rattle.model.specs.Flat.{taskNumbers}
+use Rattle.model.proofs.Flat.{length-taskNumbers}
 use Rattle.table.specs.Numbers.{Written}
-use Rattle.table.proofs.Numbering.{length-taskNumbers, tasks-few, number-there}
+use Rattle.table.proofs.Numbering.{tasks-few, number-there}
 use Rattle.table.proofs.Filling.{written-none, written-more}
 
 abbrev tasksOf : List ℕ → ℕ → ℕ → List Task

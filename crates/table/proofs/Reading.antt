@@ -1,6 +1,6 @@
 -- How the rows and the numbers are read: the tasks of a mode between two starts, and the switches of a mode by their targets. Assumes nothing.
-use mathlib.Core.Path.{_≡_, refl, sym, _∙_, ap}
-use mathlib.Core.Bool.{Bool, true, false, cond, _||_, false≢true}
+use mathlib.Core.Path.{_≡_, sym, _∙_, ap}
+use mathlib.Core.Bool.{true, false}
 use mathlib.Core.List.{List, [], _∷_, _++_, map, List·Memᴰ, List·Memᴰ·head, List·Memᴰ·tail, List·Memᴰ·not-nil}
 use Prim.Native.Nat.{ℕ, suc, _+_, _*_, _/_, _%_, _≤_, _<_}
 use native.Mathlib.Numerals.{add-one}
@@ -8,20 +8,20 @@ use native.Mathlib.Omega.{arith}
 use lib.Dec.{eqb}
 use lib.ListN.{length, getD, take, drop, length-drop, take-append-drop, List·getD-append}
 use lib.Seq.{drop-cons, getD-take, getD-drop, getD-append-add, ext-getD, length-take-le}
-use borrow.Author.Tests.{eqb-true, eq-eqb, ne-eqb}
+use borrow.Author.Tests.{eq-eqb, ne-eqb}
 use Rattle.model.specs.Lists.{All, Distinct}
-use Rattle.model.specs.Sheet.{Task, Switch, Mode, Module, moduleAt}
+use Rattle.model.specs.Sheet.{Task, Switch, Mode, Module, moduleAt, named}
 use Rattle.model.specs.Run.{modeAt, idle}
-use Rattle.format.specs.Rules.{named}
 use Rattle.format.specs.Judgement.{sheetIn, Accepted}
 use Rattle.format.proofs.Bytes.{joined-append}
 use Rattle.format.proofs.RoundTrip.{accepted-wellFormed}
 use Rattle.table.specs.Rows.{periodTo, switchPeriodAt, switchListedAt, RowOf, noRow, RowsOf}
 use Rattle.model.specs.Flat.{taskNumbers}
+use Rattle.model.proofs.Flat.{length-taskNumbers}
 use Rattle.table.specs.Numbers.{modeNumbers, startOf, TasksOf}
 use Rattle.table.specs.declared.ModuleRow.{ModuleRow}
 use Rattle.table.specs.declared.Tasks.{Tasks}
-use Rattle.table.proofs.Numbering.{length-taskNumbers, start-step, start-most, modes-few}
+use Rattle.table.proofs.Numbering.{start-step, start-most, modes-few}
 
 -- Tasks.
 
@@ -85,28 +85,18 @@ switch-listed-at m j t l =
     let target : (8 * j + t) % 8 ≡ t = omega arith in
     rw (mode, target)
 
--- A target that is listed has a switch in the list, of that period ..
-pub listed-switch : (t : ℕ) (ws : List Switch) → named t ws ≡ true → (w : Switch) × List·Memᴰ w ws × (w .target ≡ t) × (w .period ≡ periodTo t ws)
-listed-switch t [] e = absurd (false≢true e)
-listed-switch t (w ∷ ws) e = pick (eqb t (w .target)) refl (listed-switch t ws) e
-  where
-    pick : (b : Bool) → eqb t (w .target) ≡ b → (named t ws ≡ true → (v : Switch) × List·Memᴰ v ws × (v .target ≡ t) × (v .period ≡ periodTo t ws)) → b || named t ws ≡ true
-        → (v : Switch) × List·Memᴰ v (w ∷ ws) × (v .target ≡ t) × (v .period ≡ cond b (w .period) (periodTo t ws))
-    pick true q later g = (w, List·Memᴰ·head refl, sym (eqb-true t (w .target) q), refl)
-    pick false q later g = let (v, there, target, period) = later g in (v, List·Memᴰ·tail there, target, period)
-
 -- a target that stands in the list is no other's
 apart : (t : ℕ) (w : Switch) (ws : List Switch) → All (λ u. t ≡ u → ⊥) (map (λ (v : Switch). v .target) ws) → List·Memᴰ w ws → t ≡ w .target → ⊥
 apart t w (v ∷ ws) a (List·Memᴰ·head e) q = a .0 (rw (e) at q)
 apart t w (v ∷ ws) a (List·Memᴰ·tail h) q = apart t w ws (a .1) h q
 
--- .. and a switch of a list that names each target once is listed, with its period.
-pub switch-listed : (w : Switch) (ws : List Switch) → Distinct (map (λ (v : Switch). v .target) ws) → List·Memᴰ w ws → (named (w .target) ws ≡ true) × (periodTo (w .target) ws ≡ w .period)
-switch-listed w [] d h = absurd (List·Memᴰ·not-nil h)
-switch-listed w (v ∷ ws) d (List·Memᴰ·head e) = let same : eqb (w .target) (v .target) ≡ true = eq-eqb _ _ (ap (λ (u : Switch). u .target) e) in (rw (same), rw (same) (ap (λ (u : Switch). u .period) (sym e)))
-switch-listed w (v ∷ ws) d (List·Memᴰ·tail h) =
+-- in a list that names each target once, a switch is the first that names its target
+pub switch-period : (w : Switch) (ws : List Switch) → Distinct (map (λ (v : Switch). v .target) ws) → List·Memᴰ w ws → periodTo (w .target) ws ≡ w .period
+switch-period w [] d h = absurd (List·Memᴰ·not-nil h)
+switch-period w (v ∷ ws) d (List·Memᴰ·head e) = let same : eqb (w .target) (v .target) ≡ true = eq-eqb _ _ (ap (λ (u : Switch). u .target) e) in rw same (ap (λ (u : Switch). u .period) (sym e))
+switch-period w (v ∷ ws) d (List·Memᴰ·tail h) =
     let other : eqb (w .target) (v .target) ≡ false = ne-eqb _ _ (λ e. apart (v .target) w ws (d .0) h (sym e)) in
-    rw (other) (switch-listed w ws (d .1) h)
+    rw other (switch-period w ws (d .1) h)
 
 -- Rows.
 

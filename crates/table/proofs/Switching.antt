@@ -9,10 +9,9 @@ use lib.Dec.{eqb, ltb}
 use lib.ListN.{length, getD, drop, List·getD-eq-default, drop-of-length-le}
 use lib.Seq.{drop-cons}
 use borrow.Author.Tests.{eq-eqb, ne-eqb, lt-ltb}
-use Rattle.model.specs.Sheet.{Switch, moduleAt}
+use Rattle.model.specs.Sheet.{Switch, moduleAt, named}
 use Rattle.model.specs.Run.{modeAt}
 use Rattle.format.specs.Record.{fieldsOf, fieldAt}
-use Rattle.format.specs.Rules.{named}
 use Rattle.format.specs.Judgement.{sheetIn, Accepted}
 use Rattle.format.specs.Refusal.{AreBytes}
 use Rattle.format.specs.Place.{modePlace}

@@ -5,10 +5,9 @@ use mathlib.Core.List.{List, [], _∷_, map}
 use Prim.Native.Nat.{ℕ, suc, _/_, _%_, _<_}
 use lib.Dec.{eqb}
 use lib.ListN.{length, getD}
-use Rattle.model.specs.Sheet.{Switch, Mode, Module, Sheet, moduleAt}
+use Rattle.model.specs.Sheet.{Switch, Mode, Module, Sheet, moduleAt, named}
 use Rattle.model.specs.Limits.{maxModules}
 use Rattle.model.specs.Run.{modeAt}
-use Rattle.format.specs.Rules.{named}
 use Rattle.table.specs.declared.ModuleRow.{ModuleRow}
 
 -- a row of n figures: at each number below n what f says

@@ -43,6 +43,11 @@ impl Comparison {
             return differ(fault, format!("{second}, and the memory's other cells stay"));
         }
         self.tally.count(query, &second);
+        if let (Query::StateDemand { module, mode, .. }, Ok(sheet), 0) =
+            (*query, wanted.sheet(), second.number())
+        {
+            self.tally.count_state(sheet, module, mode);
+        }
         Ok(())
     }
 
@@ -51,7 +56,9 @@ impl Comparison {
     pub fn every_call(&mut self, rng: &mut Rng, bytes: &[u8], way: Way, before: &Sheet) -> Alike {
         let wanted = Wanted::new(bytes, way);
         let calls = calls(rng, wanted.sheet().unwrap_or(before));
-        calls.iter().try_for_each(|query| self.call(bytes, &wanted, query))
+        calls.iter().try_for_each(|query| self.call(bytes, &wanted, query))?;
+        wanted.sheet().into_iter().for_each(|sheet| self.tally.count_sheet(sheet));
+        Ok(())
     }
 
     /// Puts every single fault to the sheet, and makes the judge's call and one other on each.

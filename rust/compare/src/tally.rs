@@ -2,7 +2,8 @@
 
 use crate::answer::Answer;
 use crate::query::{Query, KINDS};
-use second::{Exact, Quick};
+use second::sheet::MOST_MODES;
+use second::{reached, Exact, Module, Quick, Sheet};
 use std::fmt;
 
 /// The counts of a comparison.
@@ -21,9 +22,27 @@ pub struct Tally {
     pub switching: u64,
     /// The ticks of the longest tape.
     pub longest_tape: usize,
+    /// Accepted sheets with a mode that is not reached from mode 0.
+    pub unreached: u64,
+    /// Accepted sheets by how many switches it takes at least to the farthest reached mode.
+    pub farthest: [u64; MOST_MODES],
+    /// State demands answered about a mode that is not reached.
+    pub unreached_states: u64,
 }
 
 impl Tally {
+    /// Counts an accepted sheet that every call is made on.
+    pub fn count_sheet(&mut self, sheet: &Sheet) {
+        let all_reached = |module: &Module| reached(module).into_iter().all(|mode| mode);
+        self.unreached += u64::from(!sheet.modules.iter().all(all_reached));
+        self.farthest[sheet.modules.iter().map(farthest).max().unwrap_or(0)] += 1;
+    }
+
+    /// Counts a state demand that was answered about the sheet.
+    pub fn count_state(&mut self, sheet: &Sheet, module: usize, mode: usize) {
+        self.unreached_states += u64::from(!reached(&sheet.modules[module])[mode]);
+    }
+
     /// Counts an answer that both sides gave.
     pub fn count(&mut self, query: &Query, answer: &Answer) {
         self.calls[query.kind()][answer.number()] += 1;
@@ -39,6 +58,25 @@ impl Tally {
             _ => {}
         }
     }
+}
+
+/// How many switches it takes at least to the farthest reached mode.
+fn farthest(module: &Module) -> usize {
+    let mut come = vec![0];
+    for switches in 0.. {
+        let listed = come.iter().flat_map(|&mode: &usize| &module.modes[mode].switches);
+        let targets: Vec<usize> = listed.map(|switch| switch.target.into()).collect();
+        let before = come.len();
+        targets.into_iter().for_each(|target| {
+            if !come.contains(&target) {
+                come.push(target);
+            }
+        });
+        if come.len() == before {
+            return switches;
+        }
+    }
+    unreachable!("each round but the last comes to a mode more")
 }
 
 impl fmt::Display for Tally {
@@ -58,6 +96,9 @@ impl fmt::Display for Tally {
         write!(f, "exact test: {exact_clear} clear, {exact_over} over, ")?;
         write!(f, "of these {} from a start above 0, ", self.late_starts)?;
         writeln!(f, "{} with a switch on a tape", self.switching)?;
-        writeln!(f, "longest tape: {} ticks", self.longest_tape)
+        writeln!(f, "longest tape: {} ticks", self.longest_tape)?;
+        write!(f, "modes that are not reached: on {} sheets, ", self.unreached)?;
+        writeln!(f, "{} state demands answered about one", self.unreached_states)?;
+        writeln!(f, "sheets by the switches to the farthest mode: {:?}", self.farthest)
     }
 }

@@ -36,6 +36,12 @@ fn small(seeds: Range<u64>) {
         assert!(tally.calls[demand][0] > 1000 && tally.calls[demand][9] > 1000);
     }
     assert!((2..=6).all(|borrowing| tally.calls[borrowing][10] > 200));
+    assert!(unreached_modes(&tally, 1000, 100) && tally.unreached_states > 1000);
+}
+
+/// Whether sheets with modes that are not reached came so often, and chains of each length.
+fn unreached_modes(tally: &Tally, least: u64, chains: u64) -> bool {
+    tally.unreached >= least && tally.farthest.iter().all(|&count| count >= chains)
 }
 
 #[test]
@@ -57,6 +63,7 @@ fn large_and_damaged_sheets() {
     println!("{tally}");
     assert!(both_verdicts(&tally, 20));
     assert!(tally.longest_tape > 100);
+    assert!(unreached_modes(&tally, 100, 3) && tally.unreached_states > 50);
     // Whatever is asked, a sheet's fault is the refusal.
     assert!(tally.calls.iter().flat_map(|counts| &counts[1..=8]).all(|&count| count > 0));
 }

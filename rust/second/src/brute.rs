@@ -88,6 +88,26 @@ pub fn all_states(module: &Module) -> Vec<State> {
     modes.flat_map(|(m, mode)| (0..u64::from(mode.period)).map(move |d| (m, d))).collect()
 }
 
+/// Which modes are reached: those that some run from tick 0 is in at some tick,
+/// with no regard to the horizon. Of the runs only the states at each tick are
+/// kept, since what can come after depends on nothing else.
+///
+/// A run that comes to a mode can do so by a chain of switches that passes no
+/// mode twice, and can leave each mode before it by the end of one period. So as
+/// many ticks as all mode periods together are enough.
+pub fn reached(module: &Module) -> Vec<bool> {
+    let ticks: u64 = module.modes.iter().map(|mode| u64::from(mode.period)).sum();
+    let mut reached = vec![false; module.modes.len()];
+    let mut states = vec![(0, 0)];
+    for _ in 0..ticks {
+        states.iter().for_each(|&(mode, _)| reached[mode] = true);
+        states = states.into_iter().flat_map(|state| states_after(module, state)).collect();
+        states.sort_unstable();
+        states.dedup();
+    }
+    reached
+}
+
 /// The instances that one tick of a mode releases.
 fn released_at(mode: &Mode, d: u64, tick: u64) -> Vec<Instance> {
     let releasing =
@@ -126,13 +146,14 @@ pub fn state_demand(module: &Module, from: State, length: u64) -> u64 {
     all.iter().map(|run| demand(&instances(module, run), 0, length)).max().unwrap_or(0)
 }
 
-/// The module demand: the largest over all states.
+/// The module demand: the largest over all states of the reached modes.
 pub fn module_demand(module: &Module, length: u64) -> u64 {
-    let states = all_states(module);
-    states.iter().map(|&state| state_demand(module, state, length)).max().unwrap_or(0)
+    let reached = reached(module);
+    let states = all_states(module).into_iter().filter(|&(mode, _)| reached[mode]);
+    states.map(|state| state_demand(module, state, length)).max().unwrap_or(0)
 }
 
-/// The quick test.
+/// The quick test, by the module demands, so of the reached modes only.
 pub fn quick(sheet: &Sheet) -> Quick {
     for length in 1..=u64::from(sheet.horizon) {
         let demand = sheet.modules.iter().map(|module| module_demand(module, length)).sum();

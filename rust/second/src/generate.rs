@@ -48,10 +48,11 @@ impl Rng {
 pub struct Shape {
     pub horizon: (usize, usize),
     pub modules: (usize, usize),
+    /// Modes in a module; a chain may need more.
     pub modes: (usize, usize),
-    /// Tasks in a mode.
+    /// Tasks in a mode; a heavy one has two at least.
     pub tasks: (usize, usize),
-    /// Switches in a mode; there are never more than other modes.
+    /// Switches in a mode; there are never more than modes it may lead to.
     pub switches: (usize, usize),
     /// The mode periods to choose from.
     pub periods: Vec<u16>,
@@ -61,6 +62,19 @@ pub struct Shape {
     pub let_percent: usize,
     /// The cost is at most the LET divided by this, and at least 1.
     pub cost_divisor: usize,
+    /// So many percent of the modules have a chain: mode 0 and those after it
+    /// list the next one each, and perhaps earlier ones. Up to two more modes,
+    /// or what the module lacks of its least number, are kept out of it.
+    pub chain_percent: usize,
+    /// Switches in a chain, at most seven.
+    pub chain: (usize, usize),
+    /// The mode periods to choose from in a module with a chain: short enough
+    /// for runs to come to the end of many chains within the horizon.
+    pub chain_periods: Vec<u16>,
+    /// In so many percent of the other modules with more than one mode, some
+    /// modes are kept out: none but these lists them, so they are not reached.
+    /// In further modules some are not reached by chance.
+    pub unreached_percent: usize,
 }
 
 impl Shape {
@@ -76,6 +90,10 @@ impl Shape {
             shortest_task_period: 1,
             let_percent: 0,
             cost_divisor: 1,
+            chain_percent: 12,
+            chain: (1, 7),
+            chain_periods: vec![1, 1, 2, 3],
+            unreached_percent: 12,
         }
     }
 
@@ -104,6 +122,10 @@ impl Shape {
             shortest_task_period: 4,
             let_percent: 50,
             cost_divisor: 4,
+            chain_percent: 12,
+            chain: (1, 7),
+            chain_periods: vec![4, 6, 8, 9, 10, 12],
+            unreached_percent: 12,
         }
     }
 
@@ -119,6 +141,10 @@ impl Shape {
             shortest_task_period: 50,
             let_percent: 80,
             cost_divisor: 8,
+            chain_percent: 12,
+            chain: (1, 3),
+            chain_periods: vec![100, 200, 250, 400, 500, 1000],
+            unreached_percent: 20,
         }
     }
 
@@ -134,6 +160,10 @@ impl Shape {
             shortest_task_period: 1,
             let_percent: 0,
             cost_divisor: 1,
+            chain_percent: 12,
+            chain: (1, 7),
+            chain_periods: (1..=256).collect(),
+            unreached_percent: 20,
         }
     }
 
@@ -151,7 +181,8 @@ impl Shape {
         }
     }
 
-    /// The longest sheets: every limit is met, 3,624 bytes.
+    /// The longest sheets: every limit is met, 3,624 bytes. So no module has a
+    /// chain, where mode 0 lists but one switch.
     pub fn fullest() -> Shape {
         Shape {
             horizon: (2000, 2000),
@@ -163,6 +194,10 @@ impl Shape {
             shortest_task_period: 120,
             let_percent: 50,
             cost_divisor: 9,
+            chain_percent: 0,
+            chain: (7, 7),
+            chain_periods: vec![240, 360, 480, 720, 840, 960, 1000, 1008, 1024],
+            unreached_percent: 12,
         }
     }
 }
@@ -172,37 +207,143 @@ pub fn sheet(rng: &mut Rng, shape: &Shape) -> Sheet {
     let horizon = rng.between(shape.horizon.0, shape.horizon.1) as u16;
     let mut sheet = Sheet { horizon, modules: Vec::new() };
     for _ in 0..rng.between(shape.modules.0, shape.modules.1) {
-        let modes = rng.between(shape.modes.0, shape.modes.1);
         let Counts { tasks, switches, .. } = sheet.counts();
         let mut left = (MOST_TASKS - tasks, MOST_SWITCHES - switches);
-        let module = (0..modes).map(|own| mode(rng, shape, own, modes, &mut left)).collect();
-        sheet.modules.push(Module { modes: module });
+        let plan = Plan::draw(rng, shape);
+        let modes = (0..plan.order.len()).map(|own| mode(rng, shape, &plan, own, &mut left));
+        let module = Module { modes: modes.collect() };
+        sheet.modules.push(module);
     }
     sheet
 }
 
-/// A mode of a module of so many modes. `left` is how many tasks and switches
-/// the sheet may still have.
-fn mode(rng: &mut Rng, shape: &Shape, own: usize, modes: usize, left: &mut (usize, usize)) -> Mode {
-    let period = *rng.pick(&shape.periods);
-    let mut targets: Vec<usize> = (0..modes).filter(|&target| target != own).collect();
+/// Where the switches of a module may lead.
+struct Plan {
+    /// The modes in an order that begins with mode 0.
+    order: Vec<usize>,
+    /// So many from the front list none but each other; the rest is kept out.
+    inside: usize,
+    ways: Ways,
+}
+
+/// How the modes inside list each other.
+#[derive(Clone, Copy, PartialEq, Eq)]
+enum Ways {
+    /// Any one any other.
+    Any,
+    /// Each the next.
+    Chain,
+    /// Each the next, and perhaps earlier ones.
+    ChainAndBack,
+}
+
+impl Plan {
+    /// A plan for a module of this shape.
+    fn draw(rng: &mut Rng, shape: &Shape) -> Plan {
+        if rng.chance(shape.chain_percent) {
+            return Plan::chain(rng, shape);
+        }
+        let modes = rng.between(shape.modes.0, shape.modes.1);
+        let mut inside = modes;
+        if modes > 1 && rng.chance(shape.unreached_percent) {
+            // Enough inside for the least number of switches, where that leaves one out.
+            inside = rng.between((shape.switches.0 + 1).min(modes - 1), modes - 1);
+        }
+        Plan { order: order(rng, modes), inside, ways: Ways::Any }
+    }
+
+    /// A plan for a chain, with or without modes that are kept out of it.
+    fn chain(rng: &mut Rng, shape: &Shape) -> Plan {
+        let inside = rng.between(shape.chain.0, shape.chain.1) + 1;
+        let outside = rng.between(0, 2.min(MOST_MODES - inside));
+        let modes = (inside + outside).max(shape.modes.0);
+        let ways = *rng.pick(&[Ways::Chain, Ways::Chain, Ways::ChainAndBack]);
+        Plan { order: order(rng, modes), inside, ways }
+    }
+
+    /// A mode's place in the order.
+    fn place(&self, mode: usize) -> usize {
+        self.order.iter().position(|&other| other == mode).expect("every mode has a place")
+    }
+
+    /// Targets for a mode's switches, so many where there are enough of them and
+    /// the sheet may still have as many. The next mode of a chain is always one.
+    fn targets(&self, rng: &mut Rng, own: usize, wanted: usize, left: usize) -> Vec<usize> {
+        let place = self.place(own);
+        let inside = &self.order[..self.inside];
+        let (next, others) = match (place < self.inside, self.ways) {
+            (false, _) => (None, &self.order[..]),
+            (true, Ways::Any) => (None, inside),
+            (true, Ways::Chain) => (inside.get(place + 1), &[][..]),
+            (true, Ways::ChainAndBack) => (inside.get(place + 1), &inside[..place]),
+        };
+        let mut others: Vec<usize> = others.iter().copied().filter(|&mode| mode != own).collect();
+        shuffle(rng, &mut others);
+        let mut targets: Vec<usize> = next.copied().into_iter().chain(others).collect();
+        targets.truncate(wanted.max(usize::from(next.is_some())).min(left));
+        shuffle(rng, &mut targets);
+        targets
+    }
+
+    /// Whether to make a mode heavy: half of those kept out, where the work must
+    /// not count, and some ends of chains, where it must, however far they are.
+    fn heavy(&self, rng: &mut Rng, own: usize) -> bool {
+        let place = self.place(own);
+        let ends_chain = self.ways != Ways::Any && place + 1 == self.inside;
+        place >= self.inside && rng.chance(50) || ends_chain && rng.chance(25)
+    }
+}
+
+/// An order of so many modes that begins with mode 0: the numbers ascend, or
+/// descend from the second on, or come as they may.
+fn order(rng: &mut Rng, modes: usize) -> Vec<usize> {
+    let mut order: Vec<usize> = (0..modes).collect();
+    match rng.below(4) {
+        0 => {}
+        1 => order[1..].reverse(),
+        _ => shuffle(rng, &mut order[1..]),
+    }
+    order
+}
+
+/// Puts the items in any order.
+fn shuffle(rng: &mut Rng, items: &mut [usize]) {
+    for place in 1..items.len() {
+        items.swap(place, rng.between(0, place));
+    }
+}
+
+/// A mode of a module with this plan. `left` is how many tasks and switches the
+/// sheet may still have.
+fn mode(rng: &mut Rng, shape: &Shape, plan: &Plan, own: usize, left: &mut (usize, usize)) -> Mode {
+    let periods = if plan.ways == Ways::Any { &shape.periods } else { &shape.chain_periods };
+    let period = *rng.pick(periods);
     let wanted = rng.between(shape.switches.0, shape.switches.1);
-    let switches = wanted.min(targets.len()).min(left.1);
-    let tasks = rng.between(shape.tasks.0, shape.tasks.1).min(left.0);
-    *left = (left.0 - tasks, left.1 - switches);
+    let targets = plan.targets(rng, own, wanted, left.1);
+    let heavy = plan.heavy(rng, own);
+    let least = if heavy { 2 } else { 0 };
+    let count = rng.between(shape.tasks.0, shape.tasks.1).max(least).min(left.0);
+    *left = (left.0 - count, left.1 - targets.len());
     // With a switch, the task periods divide a grain that divides the period.
     let long_enough = |d: &u16| *d >= shape.shortest_task_period.min(period);
     let grains: Vec<u16> = divisors(period).into_iter().filter(long_enough).collect();
-    let grain = if switches > 0 { *rng.pick(&grains) } else { period };
-    let tasks = (0..tasks).map(|_| task(rng, shape, grain)).collect::<Vec<_>>();
+    let grain = if targets.is_empty() { period } else { *rng.pick(&grains) };
+    let tasks = match heavy {
+        true => heavy_tasks(rng, shape, grain, count),
+        false => (0..count).map(|_| task(rng, shape, grain)).collect(),
+    };
     let fits = |d: &u16| tasks.iter().all(|t: &Task| d.is_multiple_of(t.period)) && long_enough(d);
     let choices: Vec<u16> = divisors(period).into_iter().filter(fits).collect();
-    let mut switch = || Switch {
-        target: targets.swap_remove(rng.below(targets.len())) as u16,
-        period: *rng.pick(&choices),
-    };
-    let switches = (0..switches).map(|_| switch()).collect();
+    let switch = |target| Switch { target: target as u16, period: *rng.pick(&choices) };
+    let switches = targets.into_iter().map(switch).collect();
     Mode { period, tasks, switches }
+}
+
+/// So many times the same task at full cost: with two, the demand for a length
+/// of its LET is twice that length.
+fn heavy_tasks(rng: &mut Rng, shape: &Shape, grain: u16, count: usize) -> Vec<Task> {
+    let one = task(rng, shape, grain);
+    vec![Task { cost: one.let_ticks, ..one }; count]
 }
 
 /// A task whose period divides the grain.

@@ -3,7 +3,7 @@
 //! It reads one sheet and answers whether the sheet is well formed, the demand
 //! of a mode, of a starting state and of a module, the quick test, and the
 //! exact test with a witness. It stands beside the product to be compared
-//! with it, so it shares nothing with it but the paper.
+//! with it, so it shares nothing with it but the papers.
 //!
 //! Two ways to the same answers live inside: [`brute`] follows the words of
 //! the definitions and lists every run; [`table`] works up tables over states
@@ -12,7 +12,7 @@
 //!
 //! # Readings
 //!
-//! Where the paper leaves something open, these are the readings taken:
+//! Where the papers leave something open, these are the readings taken:
 //!
 //! 1. The end of the bytes before EN is refusal 1 at the number of bytes: that
 //!    is where the wanted record's first byte would stand.
@@ -40,9 +40,13 @@
 //! 9. A demand counts an instance by its release tick and its due tick alone,
 //!    with both ends included; for the length 0 it is 0. A run need be known
 //!    only up to the last tick before the interval's end.
-//! 10. The module demand ranges over all states of all listed modes, whether
-//!     or not any run from tick 0 comes to them. The exact test takes only runs
-//!     from tick 0.
+//! 10. The module demand, and so the quick test, ranges over the states of the
+//!     modes reached from mode 0, by change request b: mode 0 is reached, and so
+//!     is the target of every switch that a reached mode lists. The horizon
+//!     plays no part, so a mode counts even where no run comes to it in time,
+//!     and all mode times of a reached mode count. The mode and the state demand
+//!     answer for every listed mode, reached or not. The exact test takes only
+//!     runs from tick 0, which come to no other modes anyway.
 //! 11. The tapes have b bytes each, each byte the mode's number as a value
 //!     (not a digit); the report alone turns them into digits.
 //! 12. Every line of the report, `refused N at P` too, ends with one newline.
@@ -53,6 +57,7 @@ pub mod sheet;
 pub mod table;
 
 pub use sheet::{encode, judge, Counts, Mode, Module, Refusal, Sheet, Switch, Task};
+pub use table::reached;
 
 /// Working memory that has to be lent, in numbers of 32 bits.
 pub const WORK_LEN: u64 = 16_384;
@@ -63,7 +68,7 @@ pub const MOST_INPUT: usize = 3625;
 /// The answer of the quick test.
 #[derive(Clone, Copy, Debug, PartialEq, Eq)]
 pub enum Quick {
-    /// No sum exceeds its length.
+    /// No sum of module demands exceeds its length.
     Clear,
     /// The smallest length whose sum exceeds it, and that sum.
     Over { length: u64, demand: u64 },
@@ -105,7 +110,8 @@ fn enough(lent: u64, wanted: u64) -> Result<(), Refusal> {
     (lent >= wanted).then_some(()).ok_or(TOO_SHORT)
 }
 
-/// The demand of a mode between mode times a and b.
+/// The demand of a mode between mode times a and b, whether or not the mode is
+/// reached.
 pub fn mode_demand(bytes: &[u8], module: u64, mode: u64, a: u64, b: u64) -> Result<u64, Refusal> {
     let sheet = judge(bytes)?;
     let mode = find_mode(find_module(&sheet, module)?, mode)?;
@@ -113,7 +119,8 @@ pub fn mode_demand(bytes: &[u8], module: u64, mode: u64, a: u64, b: u64) -> Resu
     Ok(table::mode_demand(mode, a, b))
 }
 
-/// The largest demand in the first `length` ticks over all runs from a state.
+/// The largest demand in the first `length` ticks over all runs from a state,
+/// whether or not its mode is reached.
 pub fn state_demand(
     bytes: &[u8],
     module: u64,
@@ -130,7 +137,8 @@ pub fn state_demand(
     Ok(table::state_demand(module, mode as usize, time as usize, length as usize))
 }
 
-/// The largest state demand over all states of a module's listed modes.
+/// The largest state demand over all states of those modes of a module that are
+/// [`reached`].
 pub fn module_demand(
     bytes: &[u8],
     module: u64,
@@ -144,7 +152,8 @@ pub fn module_demand(
     Ok(table::module_demand(module, length as usize))
 }
 
-/// The quick test.
+/// The quick test: whether for some length the sum of the module demands exceeds
+/// it. Modes that are not [`reached`] play no part.
 pub fn quick(bytes: &[u8], work_len: u64) -> Result<Quick, Refusal> {
     let sheet = judge(bytes)?;
     enough(work_len, WORK_LEN)?;

@@ -48,13 +48,31 @@ pub fn state_demand(module: &Module, mode: usize, time: usize, length: usize) ->
     u64::from(Demands::up_to(&states, length).now[state])
 }
 
-/// The module demand.
+/// Which modes of a module are reached from mode 0, mode by mode: mode 0 is, and
+/// so is the target of every switch that a reached mode lists. The horizon plays
+/// no part. The module has to be one of a well-formed sheet.
+///
+/// Only states of these modes count in the module demand and in the quick test.
+pub fn reached(module: &Module) -> Vec<bool> {
+    let mut reached = vec![false; module.modes.len()];
+    let mut open = vec![0];
+    while let Some(mode) = open.pop() {
+        if !reached[mode] {
+            reached[mode] = true;
+            open.extend(module.modes[mode].switches.iter().map(|s| usize::from(s.target)));
+        }
+    }
+    reached
+}
+
+/// The module demand, over the states of the reached modes.
 pub fn module_demand(module: &Module, length: usize) -> u64 {
     let states = States::of(module);
     Demands::up_to(&states, length).largest()
 }
 
-/// The quick test: all modules' demands together, length by length.
+/// The quick test: all modules' demands together, length by length. As in the
+/// module demand, only states of reached modes count.
 pub fn quick(sheet: &Sheet) -> Quick {
     let states: Vec<States> = sheet.modules.iter().map(States::of).collect();
     let mut demands: Vec<Demands> = states.iter().map(Demands::new).collect();
@@ -98,11 +116,13 @@ struct States {
     by_state: Vec<Vec<(usize, u16)>>,
 }
 
-/// The states of one mode: the first one's number, and how many there are.
+/// The states of one mode: the first one's number, how many there are, and
+/// whether the mode is reached from mode 0.
 #[derive(Clone, Copy)]
 struct Span {
     first: usize,
     cycle: usize,
+    reached: bool,
 }
 
 impl Span {
@@ -132,8 +152,8 @@ fn cycle(mode: &Mode) -> usize {
 fn spans(module: &Module) -> Vec<Span> {
     let mut first = 0;
     let mut all = Vec::new();
-    for mode in &module.modes {
-        let span = Span { first, cycle: cycle(mode) };
+    for (mode, reached) in module.modes.iter().zip(reached(module)) {
+        let span = Span { first, cycle: cycle(mode), reached };
         first = span.end();
         all.push(span);
     }
@@ -274,9 +294,11 @@ impl<'a> Demands<'a> {
         std::mem::swap(&mut self.now, &mut self.next);
     }
 
-    /// The largest of all states: the module demand.
+    /// The largest of all states of the reached modes: the module demand.
     fn largest(&self) -> u64 {
-        u64::from(self.now.iter().copied().max().unwrap_or(0))
+        let reached = self.states.modes.iter().filter(|span| span.reached);
+        let largest_of = |span: &Span| self.now[span.first..span.end()].iter().copied().max();
+        u64::from(reached.filter_map(largest_of).max().unwrap_or(0))
     }
 }
 

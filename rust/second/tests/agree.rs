@@ -1,8 +1,11 @@
 //! The two ways against each other on made-up small sheets, and the table way
 //! against a plain table and against its own witness on larger ones.
 
+mod kinds;
+
+use kinds::Kinds;
 use second::generate::{sheet, Rng, Shape};
-use second::{brute, encode, judge, table, Exact, Module, Quick, Sheet};
+use second::{brute, encode, judge, reached, table, Exact, Module, Quick, Sheet};
 
 /// How often each pair of answers came, so that a test that meets only one
 /// kind of sheet is noticed.
@@ -11,16 +14,23 @@ struct Seen {
     both_clear: usize,
     quick_only: usize,
     both_over: usize,
+    /// Both clear, yet quick over if modes that are not reached counted; not
+    /// counted for large sheets.
+    spared: usize,
     /// Exact answers with an a above 0.
     late: usize,
     /// Tapes with more than one mode.
     switching: usize,
+    kinds: Kinds,
 }
 
 impl Seen {
-    fn note(&mut self, quick: &Quick, exact: &Exact) {
+    /// Counts a sheet with its answers. Every quick clear is an exact clear.
+    fn note(&mut self, sheet: &Sheet, quick: &Quick, exact: &Exact) {
+        self.kinds.note(sheet);
         match (quick, exact) {
-            (Quick::Clear, _) => self.both_clear += 1,
+            (Quick::Clear, Exact::Clear) => self.both_clear += 1,
+            (Quick::Clear, _) => panic!("quick clear, exact over: {sheet:?}"),
             (_, Exact::Clear) => self.quick_only += 1,
             _ => self.both_over += 1,
         }
@@ -48,18 +58,38 @@ fn check_mode_demands(module: &Module) {
     }
 }
 
-/// Every state and module demand of a module, both ways.
-fn check_demands(module: &Module, horizon: u64) {
+/// Every state and module demand of a module, both ways. Gives for each length
+/// the largest state demand over all listed modes, reached or not.
+fn check_demands(module: &Module, horizon: u64) -> Vec<u64> {
+    let reached = brute::reached(module);
+    assert_eq!(table::reached(module), reached, "{module:?}");
+    let mut of_listed = Vec::new();
     for length in 0..=horizon {
-        let mut largest = 0;
+        let mut by_mode = vec![0; reached.len()];
         for (mode, time) in brute::all_states(module) {
             let literal = brute::state_demand(module, (mode, time), length);
             let tabled = table::state_demand(module, mode, time as usize, length as usize);
             assert_eq!(tabled, literal, "mode {mode} time {time} length {length}");
-            largest = largest.max(literal);
+            by_mode[mode] = literal.max(by_mode[mode]);
         }
-        assert_eq!(table::module_demand(module, length as usize), largest);
+        let of_reached = by_mode.iter().zip(&reached).filter(|(_, r)| **r).map(|(d, _)| *d).max();
+        assert_eq!(Some(table::module_demand(module, length as usize)), of_reached);
+        of_listed.extend(by_mode.into_iter().max());
     }
+    of_listed
+}
+
+/// Every demand of a sheet, both ways. Tells whether the quick test would be
+/// over if all listed modes counted.
+fn check_sheet_demands(sheet: &Sheet) -> bool {
+    let horizon = usize::from(sheet.horizon);
+    let mut sums = vec![0; horizon + 1];
+    for module in &sheet.modules {
+        check_mode_demands(module);
+        let demands = check_demands(module, horizon as u64);
+        sums.iter_mut().zip(demands).for_each(|(sum, demand)| *sum += demand);
+    }
+    (1..=horizon).any(|length| sums[length] > length as u64)
 }
 
 /// Makes so many small sheets and compares every answer.
@@ -73,14 +103,12 @@ fn compare(shape: &Shape, seed: u64, count: usize, most_runs: u64) -> Seen {
             continue;
         }
         done += 1;
-        for module in &made.modules {
-            check_mode_demands(module);
-            check_demands(module, u64::from(made.horizon));
-        }
+        let over_if_all_counted = check_sheet_demands(&made);
         let (quick, exact) = (table::quick(&made), table::exact(&made));
         assert_eq!(quick, brute::quick(&made), "{made:?}");
         assert_eq!(exact, brute::exact(&made), "{made:?}");
-        seen.note(&quick, &exact);
+        seen.note(&made, &quick, &exact);
+        seen.spared += usize::from(quick == Quick::Clear && over_if_all_counted);
     }
     println!("{count} sheets: {seen:?}");
     seen
@@ -88,19 +116,43 @@ fn compare(shape: &Shape, seed: u64, count: usize, most_runs: u64) -> Seen {
 
 #[test]
 fn small_sheets() {
-    assert!(compare(&Shape::small(), 1, 6000, 200).both_over > 1000);
+    let seen = compare(&Shape::small(), 1, 6000, 200);
+    assert!(seen.both_over > 1000 && seen.spared > 100 && seen.kinds.all_at_least(50, 7));
 }
 
 #[test]
 fn small_light_sheets() {
-    assert!(compare(&Shape::small_light(), 2, 6000, 200).all_at_least(100));
+    let seen = compare(&Shape::small_light(), 2, 6000, 200);
+    assert!(seen.all_at_least(100) && seen.spared > 100 && seen.kinds.all_at_least(50, 7));
 }
 
-/// The exact test by a plain table: unfolded states, every reached state, every
+/// Nothing but chains, with time enough to come to the end of many.
+#[test]
+fn small_chains() {
+    let shape =
+        Shape { horizon: (7, 13), modules: (1, 2), chain_percent: 100, ..Shape::small_light() };
+    let seen = compare(&shape, 8, 300, 600);
+    assert!(seen.all_at_least(10) && seen.kinds.all_at_least(10, 7) && seen.kinds.all_walked(3));
+}
+
+/// The quick test by plain tables, with these module demands.
+fn plain_quick(
+    modules: &[Plain],
+    horizon: usize,
+    module_demand: impl Fn(&Plain, usize) -> u64,
+) -> Quick {
+    for length in 1..=horizon {
+        let demand = modules.iter().map(|module| module_demand(module, length)).sum();
+        if demand > length as u64 {
+            return Quick::Over { length: length as u64, demand };
+        }
+    }
+    Quick::Clear
+}
+
+/// The exact test by plain tables: unfolded states, every reached state, every
 /// interval, no rows shared.
-fn plain_exact(sheet: &Sheet) -> Exact {
-    let horizon = usize::from(sheet.horizon);
-    let modules: Vec<Plain> = sheet.modules.iter().map(|m| Plain::of(m, horizon)).collect();
+fn plain_exact(modules: &[Plain], horizon: usize) -> Exact {
     for b in 1..=horizon {
         for a in (0..b).rev() {
             let demand: u64 = modules.iter().map(|module| module.largest(a, b)).sum();
@@ -121,6 +173,8 @@ struct Plain {
     demand: Vec<Vec<u64>>,
     /// For each tick the states reached.
     reached: Vec<Vec<usize>>,
+    /// The modes runs come to, however late.
+    reached_modes: Vec<bool>,
 }
 
 impl Plain {
@@ -150,7 +204,18 @@ impl Plain {
             next.dedup();
             reached.push(next);
         }
-        Plain { states, after, demand, reached }
+        Plain { states, after, demand, reached, reached_modes: brute::reached(module) }
+    }
+
+    /// The largest demand of any state of a mode that runs come to.
+    fn largest_of_reached(&self, length: usize) -> u64 {
+        let demands = self.states.iter().zip(&self.demand[length]);
+        demands.filter(|((mode, _), _)| self.reached_modes[*mode]).map(|(_, d)| *d).max().unwrap()
+    }
+
+    /// The largest demand of any state of any listed mode.
+    fn largest_of_listed(&self, length: usize) -> u64 {
+        self.demand[length].iter().copied().max().unwrap()
     }
 
     fn largest(&self, a: usize, b: usize) -> u64 {
@@ -188,14 +253,21 @@ impl Plain {
 fn medium_sheets() {
     let mut rng = Rng::new(3);
     let mut seen = Seen::default();
-    for _ in 0..600 {
+    for _ in 0..1000 {
         let made = sheet(&mut rng, &Shape::medium());
+        let horizon = usize::from(made.horizon);
+        let plain: Vec<Plain> = made.modules.iter().map(|m| Plain::of(m, horizon)).collect();
         let (quick, exact) = (table::quick(&made), table::exact(&made));
-        assert_eq!(exact, plain_exact(&made), "{made:?}");
-        seen.note(&quick, &exact);
+        let wanted = plain_quick(&plain, horizon, Plain::largest_of_reached);
+        let if_all_counted = plain_quick(&plain, horizon, Plain::largest_of_listed);
+        assert_eq!(quick, wanted, "{made:?}");
+        assert_eq!(exact, plain_exact(&plain, horizon), "{made:?}");
+        seen.note(&made, &quick, &exact);
+        seen.spared += usize::from(quick == Quick::Clear && if_all_counted != Quick::Clear);
     }
-    println!("600 sheets: {seen:?}");
-    assert!(seen.all_at_least(20));
+    println!("1000 sheets: {seen:?}");
+    assert!(seen.all_at_least(20) && seen.spared > 20);
+    assert!(seen.kinds.all_at_least(20, 7) && seen.kinds.all_walked(5));
 }
 
 /// The run a tape tells, or none if the tape is not one of a run.
@@ -223,8 +295,21 @@ fn check_witness(sheet: &Sheet, exact: &Exact) {
     }
 }
 
-/// Large sheets: the witness holds, and the exact test does not depend on the
-/// horizon once it is past b, and is clear just before.
+/// The sheet with no task in any mode that is not reached.
+fn without_unreached_work(sheet: &Sheet) -> Sheet {
+    let mut lighter = sheet.clone();
+    for module in &mut lighter.modules {
+        let reached = reached(module);
+        for (mode, _) in module.modes.iter_mut().zip(reached).filter(|(_, reached)| !reached) {
+            mode.tasks.clear();
+        }
+    }
+    lighter
+}
+
+/// Large sheets: the witness holds, the exact test does not depend on the
+/// horizon once it is past b, and is clear just before; and the work of modes
+/// that are not reached plays no part.
 #[test]
 fn large_sheets() {
     for (seed, shape, count) in [
@@ -239,8 +324,10 @@ fn large_sheets() {
             let mut made = sheet(&mut rng, &shape);
             assert_eq!(judge(&encode(&made)).as_ref(), Ok(&made));
             let (quick, exact) = (table::quick(&made), table::exact(&made));
-            seen.note(&quick, &exact);
+            seen.note(&made, &quick, &exact);
             check_witness(&made, &exact);
+            let lighter = without_unreached_work(&made);
+            assert_eq!((table::quick(&lighter), table::exact(&lighter)), (quick, exact.clone()));
             if let Exact::Over { b, .. } = exact {
                 made.horizon = b as u16;
                 assert_eq!(table::exact(&made), exact);
@@ -249,5 +336,6 @@ fn large_sheets() {
             }
         }
         println!("{count} sheets: {seen:?}");
+        assert!(seen.kinds.unreached > 10 && seen.kinds.heavy > 10);
     }
 }

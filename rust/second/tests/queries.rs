@@ -52,7 +52,7 @@ fn period(sheet: &Sheet, module: u64, mode: u64) -> Option<u64> {
 
 /// Asks every query of these bytes once. Gives the refusal numbers, 0 for none.
 fn ask(rng: &mut Rng, bytes: &[u8]) -> [usize; 5] {
-    let (module, mode) = (number(rng, 2), number(rng, 1));
+    let (module, mode) = (number(rng, 2), number(rng, 2));
     let (a, b) = (number(rng, 4), number(rng, 6));
     let (time, length) = (number(rng, 4), number(rng, 8));
     let work = lent(rng, WORK_LEN);

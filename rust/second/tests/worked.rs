@@ -1,8 +1,11 @@
 //! The paper's worked examples, A to J, with all their figures.
 
+mod built;
+
+use built::{both, mode, sheet, text, Fields};
 use second::{
-    brute, encode, exact, judge, lay_tapes, mode_demand, module_demand, quick, report,
-    state_demand, Exact, Mode, Module, Quick, Refusal, Sheet, Switch, Task, WORK_LEN,
+    brute, exact, judge, lay_tapes, mode_demand, module_demand, quick, state_demand, Exact, Quick,
+    Refusal, WORK_LEN,
 };
 
 const SHEET_A: &str = "48 5A 08 00 4D 4C 01 00 4D 44 04 00 54 4B 00 00 02 00 03 00 04 00 \
@@ -12,41 +15,6 @@ const SHEET_A: &str = "48 5A 08 00 4D 4C 01 00 4D 44 04 00 54 4B 00 00 02 00 03 
 /// The bytes of sheet A as the paper prints them.
 fn bytes_a() -> Vec<u8> {
     SHEET_A.split_whitespace().map(|pair| u8::from_str_radix(pair, 16).unwrap()).collect()
-}
-
-/// A task from its fields in the paper's order.
-fn task((offset, cost, let_ticks, period): (u16, u16, u16, u16)) -> Task {
-    Task { offset, cost, let_ticks, period }
-}
-
-/// A mode with tasks in the paper's order of fields, and switches (target, period).
-fn mode(period: u16, tasks: &[(u16, u16, u16, u16)], switches: &[(u16, u16)]) -> Mode {
-    Mode {
-        period,
-        tasks: tasks.iter().copied().map(task).collect(),
-        switches: switches.iter().map(|&(target, period)| Switch { target, period }).collect(),
-    }
-}
-
-/// A sheet's bytes from its horizon and its modules' modes.
-fn sheet(horizon: u16, modules: Vec<Vec<Mode>>) -> Vec<u8> {
-    let modules = modules.into_iter().map(|modes| Module { modes }).collect();
-    encode(&Sheet { horizon, modules })
-}
-
-/// The text of the report.
-fn text(bytes: &[u8]) -> String {
-    String::from_utf8(report(bytes)).unwrap()
-}
-
-/// The quick and the exact test, by the table way, checked against the literal
-/// way.
-fn both(bytes: &[u8]) -> (Quick, Exact) {
-    let sheet = judge(bytes).unwrap();
-    let tape_len = sheet.modules.len() as u64 * u64::from(sheet.horizon);
-    let answers = (quick(bytes, WORK_LEN).unwrap(), exact(bytes, WORK_LEN, tape_len).unwrap());
-    assert_eq!(answers, (brute::quick(&sheet), brute::exact(&sheet)));
-    answers
 }
 
 fn refused(bytes: &[u8]) -> (u8, usize) {
@@ -128,8 +96,6 @@ fn case_e() {
     let bytes = sheet(8, vec![vec![mode(8, &[(0, 1, 4, 4)], &[])]]);
     check_mode_demands(&bytes, &[(1, 4, 0), (1, 8, 1), (0, 8, 2)]);
 }
-
-type Fields = (u16, u16, u16, u16);
 
 /// The system of cases F and G with these tasks.
 fn two_modes_and_one(horizon: u16, first: Fields, second: Fields, other: Fields) -> Vec<u8> {

@@ -1,5 +1,6 @@
 //! A checker for timing sheets, proved to answer as their build definition
-//! (document 01) says.
+//! (document 01) says, with the change requests (document 02) that
+//! docs/CHANGES.md names.
 //!
 //! A sheet is a row of bytes. It lists modules; a module has modes, and a mode
 //! has tasks (offset, cost, LET, period) and switches to the module's other

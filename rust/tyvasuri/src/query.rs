@@ -76,16 +76,21 @@ pub fn state_demand(
     answer::demand(archive::state_demand(bytes, module, mode, time, length, work))
 }
 
-/// The demand of a module: the largest state demand over all states of all its
-/// listed modes.
+/// The demand of a module: the largest state demand over all states of the modes
+/// that are reached from mode 0.
+///
+/// Mode 0 is reached, and so is every target of a switch that a reached mode
+/// lists. A mode that no chain of switches leads to does not count, since no run
+/// is ever in it; its state demands are answered all the same.
 ///
 /// ```
-/// use tyvasuri::{module_demand, Sheet};
+/// use tyvasuri::{module_demand, state_demand, Sheet};
 ///
-/// let sheet = include_bytes!("../../../examples/a_two_modules.sheet");
+/// let sheet = include_bytes!("../../../examples/factory_mode.sheet");
 /// let mut work = [0; Sheet::WORK_LEN];
-/// assert_eq!(module_demand(sheet, 0, 3, &mut work)?, 2);
-/// assert_eq!(module_demand(sheet, 1, 3, &mut work)?, 2);
+/// assert_eq!(module_demand(sheet, 0, 4, &mut work)?, 2);
+/// // mode 2 of module 0, which nobody can enter
+/// assert_eq!(state_demand(sheet, 0, 2, 0, 4, &mut work)?, 4);
 /// # Ok::<(), tyvasuri::Refusal>(())
 /// ```
 ///
@@ -105,6 +110,9 @@ pub fn module_demand(
 
 /// The quick test: whether for some length up to the horizon the modules'
 /// demands sum up to more than the length.
+///
+/// Where it says clear, the [exact test](exact_test) does too. Modes that nobody
+/// can enter do not count; see [`module_demand`].
 ///
 /// ```
 /// use tyvasuri::{quick_test, Quick, Sheet};

@@ -1,7 +1,7 @@
 -- `back_to` makes of the layer and the heads of tick t + 1 those of tick t. Assumes nothing.
 use native.Mathlib.Omega.{arith}
 use borrow.Author.Needs.{needs}
-use Rattle.heads.proofs.Backward.{states-few, steppable, reached-back, kept-back}
+use Rattle.heads.proofs.Backward.{states-few, steppable, back-more, kept-back}
 use Rattle.heads.proofs.back_to.Statement.{statement}
 use Rattle.heads.proofs.back_to.Tie as tie
 
@@ -30,7 +30,7 @@ returns : tie.Need-returns
 returns c =
     let p = c .before .before .before .before .before .before .before .before .before .before .before .pre in
     let r = c .before .before .before .before .before .before .before .counted-at .ensures in
-    (reached-back _ _ _ _ (p .0) (p .2) _ (p .1) _ (p .4) _ r _ _ _ (omega arith) (c .before .before .before .before .before .before .advance-by .ensures) (c .before .before .note-heads .ensures), kept-back _ _ _ _ (p .0) (p .2) _ (p .1) _ (p .4) _ r _ _ _ (omega arith) (c .before .before .before .before .before .before .advance-by .ensures) (c .before .before .note-heads .ensures))
+    (back-more _ _ _ _ (p .0) (p .2) _ (p .1) _ (p .4) _ r _ _ _ (omega arith) (c .before .before .before .before .before .before .advance-by .ensures) (c .before .before .note-heads .ensures), kept-back _ _ _ _ (p .0) (p .2) _ (p .1) _ (p .4) _ r _ _ _ (omega arith) (c .before .before .before .before .before .before .advance-by .ensures) (c .before .before .note-heads .ensures))
 
 pub back-to-spec : {M : Type 1} → statement M
 back-to-spec =

@@ -2,7 +2,7 @@
 use native.Mathlib.Omega.{arith}
 use borrow.Author.Needs.{needs}
 use Rattle.layers.proofs.Parts.{cleared-at}
-use Rattle.heads.proofs.Backward.{states-few, reached-end, kept-end}
+use Rattle.heads.proofs.Backward.{states-few, back-end, kept-end}
 use Rattle.heads.proofs.begin_at.Statement.{statement}
 use Rattle.heads.proofs.begin_at.Tie as tie
 
@@ -22,7 +22,7 @@ returns : tie.Need-returns
 returns c =
     let p = c .before .before .before .before .before .before .before .before .before .before .before .before .pre in
     let cleared = cleared-at _ _ (c .before .before .before .before .before .before .before .states .ensures .0) (c .before .before .before .before .before .before .clear .ensures) in
-    (reached-end _ _ _ _ (p .0) (p .1) _ _ _ (omega (arith, states-few _ _ (p .0))) cleared (c .before .before .note-heads .ensures), kept-end _ _ (c .before .before .before .before .before .before .before .before .before .before .before .before .args .a) _ (p .0) (p .1) _ _ _ (omega (arith, states-few _ _ (p .0))) cleared (c .before .before .note-heads .ensures))
+    (back-end _ _ _ _ (p .0) (p .1) _ _ _ (omega (arith, states-few _ _ (p .0))) cleared (c .before .before .note-heads .ensures), kept-end _ _ (c .before .before .before .before .before .before .before .before .before .before .before .before .args .a) _ (p .0) (p .1) _ _ _ (omega (arith, states-few _ _ (p .0))) cleared (c .before .before .note-heads .ensures))
 
 pub begin-at-spec : {M : Type 1} → statement M
 begin-at-spec =

@@ -3,13 +3,13 @@ use mathlib.Core.Path.{_≡_, subst}
 use Prim.Native.Nat.{ℕ, _+_, _-_, _≤_}
 use native.Mathlib.Omega.{arith}
 use borrow.Author.Needs.{needs}
-use Rattle.heads.specs.Heads.{Reached, Kept}
+use Rattle.heads.specs.Heads.{BackTo, Kept}
 use Rattle.heads.proofs.Backward.{kept-none, kept-more}
 use Rattle.heads.proofs.fill_heads.Statement.{statement}
 use Rattle.heads.proofs.fill_heads.Tie as tie
 
 abbrev Inv-loop : tie.InvT-loop
-Inv-loop work₀ a b shape numbers t₀ work t = (t ≤ b) × Reached shape numbers a b t work × Kept work₀ work
+Inv-loop work₀ a b shape numbers t₀ work t = (t ≤ b) × BackTo shape numbers a b t work × Kept work₀ work
 
 abbrev μ-loop : tie.MeasureT-loop
 μ-loop work₀ a b shape numbers t₀ work t = t
@@ -29,7 +29,7 @@ back-to-requires c κs =
     let a = c .before .before .before .before .before .before .before .before .before .args in
     let t = c .before .before .loop .t in
     let up : t ≡ t - 1 + 1 = omega arith in
-    (p .0, omega arith, p .1, omega (arith, c .before .before .loop .inv .2 .len, c .before .before .before .before .before .begin-at .ensures .1 .len), subst (λ (n : ℕ). Reached (a .shape) (a .numbers .now) (a .a) (a .b) n (c .before .before .loop .work)) up (c .before .before .loop .inv .1))
+    (p .0, omega arith, p .1, omega (arith, c .before .before .loop .inv .2 .len, c .before .before .before .before .before .begin-at .ensures .1 .len), subst (λ (n : ℕ). BackTo (a .shape) (a .numbers .now) (a .a) (a .b) n (c .before .before .loop .work)) up (c .before .before .loop .inv .1))
 
 loop-less : tie.Need-loop-less Inv-loop μ-loop
 loop-less c = search needs

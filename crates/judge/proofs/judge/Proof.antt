@@ -7,12 +7,12 @@ use denote.Ref.{now}
 use borrow.Author.Needs.{needs}
 use borrow.Author.Tests.{not-true, not-false}
 use Rattle.judge.specs.Told.{tellsOf}
-use Rattle.judge.proofs.Reached.{Reached, begins, within, goes-on, is-refused, is-followed, is-accepted}
+use Rattle.judge.proofs.CameTo.{CameTo, begins, within, goes-on, is-refused, is-followed, is-accepted}
 use Rattle.judge.proofs.judge.Statement.{statement}
 use Rattle.judge.proofs.judge.Tie as tie
 
 abbrev Inv-loop : tie.InvT-loop
-Inv-loop sheet read₀ read = Reached sheet read
+Inv-loop sheet read₀ read = CameTo sheet read
 
 abbrev μ-loop : tie.MeasureT-loop
 μ-loop sheet read₀ read = length sheet - read .at
@@ -37,7 +37,7 @@ enum-told c = search needs
 
 -- a turn of the loop leads on
 leads-on : (c : tie.After-next Inv-loop μ-loop)
-    → Reached (now (c .before .before .before .before .before .before .before .before .before .args .sheet)) (c .before .before .before .step .result .next)
+    → CameTo (now (c .before .before .before .before .before .before .before .before .before .args .sheet)) (c .before .before .before .step .result .next)
     × (c .before .before .before .before .before .before .loop .read .at < c .before .before .before .step .result .next .at)
     × (c .before .before .before .step .result .next .at ≤ length (now (c .before .before .before .before .before .before .before .before .before .args .sheet)))
 leads-on c =

@@ -1,4 +1,4 @@
--- The module that is told to the engine is the module k, and its demands are what is added. Assumes nothing.
+-- The module that is told to the engine is the module k without the modes that are not reached, and its demands are what is added. Assumes nothing.
 use native.Mathlib.Omega.{arith}
 use denote.Ref.{now}
 use borrow.Author.Needs.{needs}
@@ -6,7 +6,7 @@ use Rattle.model.specs.WellFormed.{WellFormed}
 use Rattle.format.specs.Judgement.{sheetIn}
 use Rattle.format.proofs.RoundTrip.{accepted-wellFormed}
 use Rattle.table.proofs.Reading.{row-of-module}
-use Rattle.modules.proofs.Telling.{rule, tells}
+use Rattle.modules.proofs.Telling.{reached-rule, reached-tells}
 use Rattle.quick.proofs.Sums.{module-added}
 use Rattle.quick.proofs.add_module.Statement.{statement}
 use Rattle.quick.proofs.add_module.Tie as tie
@@ -20,8 +20,8 @@ mul-row c = omega (arith, sound (c .before .before) .modules-most)
 array-copy-out-row : tie.Need-array-copy-out-row
 array-copy-out-row c = omega (arith, sound (c .before .before) .modules-most)
 
-engine-of-requires : tie.Need-engine-of-requires
-engine-of-requires c κs =
+reached-engine-of-requires : tie.Need-reached-engine-of-requires
+reached-engine-of-requires c κs =
     let p = c .before .before .before .pre in
     (p .0, (p .1 .0, row-of-module _ (p .0) _ (p .1 .0) (p .1 .1 .1 .0)))
 
@@ -32,7 +32,7 @@ add-demands-requires : tie.Need-add-demands-requires
 add-demands-requires c κs =
     let a = c .before .before .before .before .before .before .before .before in
     let p = a .pre .1 .1 .1 .1 in
-    (omega (arith, sound a .horizon-most, a .pre .1 .1 .0), p .0, p .1, tells (now (a .args .sheet)) (a .pre .0) (a .args .k) (a .pre .1 .0) (c .before .before .before .before .engine-of .ensures))
+    (omega (arith, sound a .horizon-most, a .pre .1 .1 .0), p .0, p .1, reached-tells (now (a .args .sheet)) (a .pre .0) (a .args .k) (a .pre .1 .0) (c .before .before .before .before .reached-engine-of .ensures))
 
 same-length : tie.Need-same-length
 same-length c = search needs
@@ -42,7 +42,7 @@ returns c =
     let engine = c .before .before .before .before .before .before .before in
     let a = engine .before .before .before .before in
     let bs = now (a .args .sheet) in
-    module-added (sheetIn bs) _ (a .args .k) _ _ _ _ (rule bs (a .pre .0) (a .args .k) (a .pre .1 .0)) (engine .engine-of .ensures) (c .before .before .add-demands .ensures)
+    module-added (sheetIn bs) _ (a .args .k) _ _ _ _ (reached-rule bs (a .pre .0) (a .args .k) (a .pre .1 .0)) (engine .reached-engine-of .ensures) (c .before .before .add-demands .ensures)
 
 pub add-module-spec : {M : Type 1} → statement M
 add-module-spec =
@@ -50,7 +50,7 @@ add-module-spec =
     (tie.spec
     mul-row
     array-copy-out-row
-    engine-of-requires
+    reached-engine-of-requires
     slice-aggregate-add-demands
     add-demands-requires
     same-length

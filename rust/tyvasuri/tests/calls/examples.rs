@@ -1,6 +1,6 @@
 //! The sheets of the folder `examples`, each with what is printed for it.
 
-use crate::sheets::{sheet_a, sheet_b, sheet_f, sheet_g, sheet_h};
+use crate::sheets::{sheet_a, sheet_b, sheet_f, sheet_factory, sheet_g, sheet_h};
 use std::ffi::OsStr;
 use std::fs;
 use std::path::{Path, PathBuf};
@@ -23,7 +23,7 @@ fn files(ending: &str) -> Vec<PathBuf> {
 #[test]
 fn every_sheet_prints_its_lines() {
     let sheets = files("sheet");
-    assert!(sheets.len() >= 7);
+    assert!(sheets.len() >= 8);
     let printed: Vec<PathBuf> = sheets.iter().map(|path| path.with_extension("out")).collect();
     assert_eq!(files("out"), printed);
     let mut memory = Memory::new();
@@ -38,13 +38,14 @@ fn every_sheet_prints_its_lines() {
 }
 
 #[test]
-fn lettered_sheets_are_those_of_document_01() {
+fn sheets_are_the_worked_ones() {
     for (name, bytes) in [
         ("a_two_modules", sheet_a()),
         ("b_shorter_horizon", sheet_b()),
         ("f_alternating", sheet_f()),
         ("g_alternating_over", sheet_g()),
         ("h_smallest", sheet_h()),
+        ("factory_mode", sheet_factory()),
     ] {
         assert_eq!(fs::read(folder().join(name).with_extension("sheet")).unwrap(), bytes, "{name}");
     }

@@ -55,3 +55,15 @@ pub fn sheet_g() -> Vec<u8> {
 pub fn sheet_h() -> Vec<u8> {
     sheet("HZ 1 ML 1 MD 1 EN 3")
 }
+
+/// A sheet with a factory mode, mode 2 of module 0, that no switch leads to.
+pub fn sheet_factory() -> Vec<u8> {
+    sheet(
+        "HZ 8
+         ML 3 MD 4 TK 0 1 4 4 SW 1 4
+              MD 4 TK 0 2 4 4 SW 0 4
+              MD 4 TK 0 4 4 4 SW 0 4
+         ML 1 MD 4 TK 0 2 4 4
+         EN 14",
+    )
+}

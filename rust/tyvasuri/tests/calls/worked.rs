@@ -1,6 +1,6 @@
-//! The worked cases of document 01.
+//! The worked cases of document 01, and those of the requests of document 02.
 
-use crate::sheets::{sheet, sheet_a, sheet_b, sheet_f, sheet_g, sheet_h};
+use crate::sheets::{sheet, sheet_a, sheet_b, sheet_f, sheet_factory, sheet_g, sheet_h};
 use tyvasuri::{Counts, Exact, Fault, Memory, Quick, Refusal, Sheet};
 
 /// Sheet A in hex, as document 01 prints it.
@@ -154,4 +154,37 @@ fn quick_sum_of_module_demands() {
         let mut demand = |module| sheet.module_demand_in(module, length, &mut memory).unwrap();
         assert_eq!(demand(0) + demand(1), sum);
     }
+}
+
+/// Request b: no switch leads to the factory mode. Its work is in no module
+/// demand and not in the quick test; its state demands are answered.
+#[test]
+fn factory_mode() {
+    let bytes = sheet_factory();
+    check_verdicts(&bytes, None, None);
+    let sheet = Sheet::judge(&bytes).unwrap();
+    let mut memory = Memory::new();
+    assert_eq!(sheet.module_demand_in(0, 4, &mut memory), Ok(2));
+    assert_eq!(sheet.state_demand_in(0, 2, 0, 4, &mut memory), Ok(4));
+    assert_eq!(sheet.state_demand_in(0, 2, 0, 8, &mut memory), Ok(8));
+    assert_eq!(sheet.mode_demand(0, 2, 0, 4), Ok(4));
+}
+
+/// The same sheet with a switch into its factory mode.
+#[test]
+fn factory_mode_that_is_entered() {
+    let bytes = sheet(
+        "HZ 8
+         ML 3 MD 4 TK 0 1 4 4 SW 1 4
+              MD 4 TK 0 2 4 4 SW 2 4
+              MD 4 TK 0 4 4 4 SW 0 4
+         ML 1 MD 4 TK 0 2 4 4
+         EN 14",
+    );
+    let sheet = Sheet::judge(&bytes).unwrap();
+    let mut memory = Memory::new();
+    assert_eq!(sheet.module_demand_in(0, 4, &mut memory), Ok(4));
+    assert_eq!(first_over(sheet.quick_test_in(&mut memory)), Some((4, 6)));
+    // No run has come to it and had an instance due by tick 8.
+    assert!(sheet.exact_test_in(&mut memory).is_clear());
 }

@@ -20,16 +20,16 @@ use Rattle.judge.specs.declared.Turn.{Turn}
 use Rattle.judge.specs.Told.{told-accepted, tellsOf}
 use Rattle.judge.specs.Reading.{horizonRead, Reads, Within, Turned, Steps}
 
-pub record Reached (bs : List ℕ) (st : Sheet) : Type 0 where
+pub record CameTo (bs : List ℕ) (st : Sheet) : Type 0 where
   pub read : List Record
   pub front : Front bs read
   pub state : Reads st read
 
 -- before the first record
-pub begins : (bs : List ℕ) (st : Sheet) → Reads st [] → Reached bs st
+pub begins : (bs : List ℕ) (st : Sheet) → Reads st [] → CameTo bs st
 begins bs st h = record { read = []; front = tt; state = h }
 
-module _ (bs : List ℕ) (st : Sheet) (r : Reached bs st) where
+module _ (bs : List ℕ) (st : Sheet) (r : CameTo bs st) where
   pub within : st .ended ≡ false → Within bs st
   within g =
       let s = front-sound bs (r .read) (r .front) in
@@ -65,11 +65,11 @@ module _ (bs : List ℕ) (st : Sheet) (r : Reached bs st) where
         subst (Next bs (r .read)) (ap (λ p. tested bs p (r .read)) (sym (r .state .at)) ∙ e) (tested-next bs (r .read) (r .front) (open-end g))
 
     -- a sound record leads on, within the bytes
-    pub goes-on : t .test ≡ Sound → Reached bs (t .next) × (st .at < t .next .at) × (t .next .at ≤ length bs)
+    pub goes-on : t .test ≡ Sound → CameTo bs (t .next) × (st .at < t .next .at) × (t .next .at ≤ length bs)
     unfolding Turned
     goes-on e = pick (tested bs (st .at) (r .read)) refl
       where
-        pick : (x : Tested) → tested bs (st .at) (r .read) ≡ x → Reached bs (t .next) × (st .at < t .next .at) × (t .next .at ≤ length bs)
+        pick : (x : Tested) → tested bs (st .at) (r .read) ≡ x → CameTo bs (t .next) × (st .at < t .next .at) × (t .next .at ≤ length bs)
         pick (fault n) q =
             let f : t .test ≡ Fault n (st .at) = by-test (fault n) q in
             let z : _≡_ {A = ℕ} 0 1 = cc in
@@ -120,7 +120,7 @@ gathered-horizon (sw w ∷ rs) ks ws os ms = gathered-horizon rs _ _ _ _
 gathered-horizon (en n ∷ rs) ks ws os ms = gathered-horizon rs _ _ _ _
 
 -- The state at the end has the counts and the horizon of the sheet.
-pub is-accepted : (bs : List ℕ) (st : Sheet) → Reached bs st → st .ended ≡ true → length bs ≤ st .at
+pub is-accepted : (bs : List ℕ) (st : Sheet) → CameTo bs st → st .ended ≡ true → length bs ≤ st .at
     → told-accepted (record { modules = st .modules; modes = st .modes; tasks = st .tasks; switches = st .switches }) (st .horizon) ≡ tellsOf (judgement bs)
 is-accepted bs st r e l =
     let h : Reads st (r .read) = r .state in
