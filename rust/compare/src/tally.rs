@@ -63,20 +63,17 @@ impl Tally {
 /// How many switches it takes at least to the farthest reached mode.
 fn farthest(module: &Module) -> usize {
     let mut come = vec![0];
-    for switches in 0.. {
+    let mut switches = 0;
+    loop {
         let listed = come.iter().flat_map(|&mode: &usize| &module.modes[mode].switches);
-        let targets: Vec<usize> = listed.map(|switch| switch.target.into()).collect();
-        let before = come.len();
-        targets.into_iter().for_each(|target| {
-            if !come.contains(&target) {
-                come.push(target);
-            }
-        });
-        if come.len() == before {
+        let targets = listed.map(|switch| usize::from(switch.target));
+        let mut more: Vec<usize> = targets.filter(|target| !come.contains(target)).collect();
+        if more.is_empty() {
             return switches;
         }
+        come.append(&mut more);
+        switches += 1;
     }
-    unreachable!("each round but the last comes to a mode more")
 }
 
 impl fmt::Display for Tally {

@@ -67,3 +67,10 @@ pub fn sheet_factory() -> Vec<u8> {
          EN 14",
     )
 }
+
+/// The same sheet with its mode 1 switching to the factory mode, not to mode 0.
+pub fn sheet_factory_entered() -> Vec<u8> {
+    let mut bytes = sheet_factory();
+    bytes[44] = 2;
+    bytes
+}

@@ -1,6 +1,8 @@
 //! The worked cases of document 01, and those of the requests of document 02.
 
-use crate::sheets::{sheet, sheet_a, sheet_b, sheet_f, sheet_factory, sheet_g, sheet_h};
+use crate::sheets::{
+    sheet, sheet_a, sheet_b, sheet_f, sheet_factory, sheet_factory_entered, sheet_g, sheet_h,
+};
 use tyvasuri::{Counts, Exact, Fault, Memory, Quick, Refusal, Sheet};
 
 /// Sheet A in hex, as document 01 prints it.
@@ -170,17 +172,10 @@ fn factory_mode() {
     assert_eq!(sheet.mode_demand(0, 2, 0, 4), Ok(4));
 }
 
-/// The same sheet with a switch into its factory mode.
+/// With a switch into it, the factory mode counts.
 #[test]
 fn factory_mode_that_is_entered() {
-    let bytes = sheet(
-        "HZ 8
-         ML 3 MD 4 TK 0 1 4 4 SW 1 4
-              MD 4 TK 0 2 4 4 SW 2 4
-              MD 4 TK 0 4 4 4 SW 0 4
-         ML 1 MD 4 TK 0 2 4 4
-         EN 14",
-    );
+    let bytes = sheet_factory_entered();
     let sheet = Sheet::judge(&bytes).unwrap();
     let mut memory = Memory::new();
     assert_eq!(sheet.module_demand_in(0, 4, &mut memory), Ok(4));
