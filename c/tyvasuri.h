@@ -45,15 +45,15 @@ enum tyvasuri_kind {
     TYVASURI_ANSWERED = 0,
     /* the sheet ends where a mark or a field is wanted */
     TYVASURI_CUT_SHORT = 1,
-    /* a mark is not in the list */
+    /* a mark is none of HZ, ML, MD, TK, SW, SX and EN */
     TYVASURI_UNKNOWN_MARK = 2,
     /* a mark is out of order, or a module is closed or exceeded against its number of modes */
     TYVASURI_OUT_OF_ORDER = 3,
-    /* a ninth ML, a 17th TK in a mode, a 257th TK or a 129th SW */
+    /* a ninth ML, a 17th TK in a mode, a 257th TK or a 129th of SW and SX together */
     TYVASURI_PAST_COUNT = 4,
     /* a field of HZ, ML, MD or TK breaks its rule */
     TYVASURI_BAD_FIELD = 5,
-    /* a field of SW breaks its rule */
+    /* a field of SW or SX breaks its rule */
     TYVASURI_BAD_SWITCH = 6,
     /* EN's number is wrong */
     TYVASURI_BAD_END = 7,
@@ -169,7 +169,7 @@ static inline size_t tyvasuri_tasks_of(uint64_t answer)
     return (size_t)tyvasuri_bits_of(answer, 24, 16);
 }
 
-/* Of the judge, accepted: the number of switches. */
+/* Of the judge, accepted: the number of switches, SW and SX together. */
 static inline size_t tyvasuri_switches_of(uint64_t answer)
 {
     return (size_t)tyvasuri_bits_of(answer, 40, 8);

@@ -1,7 +1,8 @@
 -- The sheets of the worked cases (document 01, 'Program and examples'; document 02): bytes where the case gives bytes, values else. Assumes nothing.
 use mathlib.Core.List.{List, [], _∷_}
 use Prim.Native.Nat.{ℕ}
-use Rattle.model.specs.Sheet.{Task, Switch, Mode, Module, Sheet}
+use lib.ListN.{replicate}
+use Rattle.model.specs.Sheet.{Task, Kind, SW, SX, Switch, Mode, Module, Sheet}
 
 -- Sheet A, with its horizon as a parameter: case B has another.
 unfoldable pub sheetA : ℕ → List ℕ
@@ -34,8 +35,11 @@ task offset cost LET period = record { offset = offset; cost = cost; LET = LET; 
 abbrev pub mode : ℕ → List Task → List Switch → Mode
 mode period tasks switches = record { period = period; tasks = tasks; switches = switches }
 
+abbrev pub by : Kind → ℕ → ℕ → Switch
+by kind target period = record { kind = kind; target = target; period = period }
+
 abbrev pub to : ℕ → ℕ → Switch
-to target period = record { target = target; period = period }
+to = by SW
 
 abbrev pub modes : List Mode → Module
 modes os = record { modes = os }
@@ -75,3 +79,31 @@ factory =
           ∷ lone 4 (task 0 2 4 4)
           ∷ [];
     }
+
+-- Request k: module 0 has work from tick 0 to tick 4 of a mode of period 12, which a switch of this kind and period leaves; module 1 takes so
+-- much of every 6 ticks.
+unfoldable pub leaving : Kind → ℕ → ℕ → Sheet
+leaving kind period cost =
+    record {
+      horizon = 12;
+      modules =
+          modes (mode 12 (task 0 3 4 12 ∷ []) (by kind 1 period ∷ []) ∷ mode 2 (task 0 1 1 2 ∷ []) (to 0 2 ∷ []) ∷ [])
+          ∷ lone 6 (task 0 cost 6 6)
+          ∷ [];
+    }
+
+-- Request k: a task releases at tick 2, where its mode may be left; the next mode releases at every tick.
+unfoldable pub releasing : Sheet
+releasing = record { horizon = 4; modules = modes (mode 4 (task 2 1 1 4 ∷ []) (by SX 1 2 ∷ []) ∷ mode 1 (task 0 1 1 1 ∷ []) [] ∷ []) ∷ [] }
+
+-- Request k: a target that is named twice.
+unfoldable pub twice : Kind → Kind → Sheet
+twice kind other = record { horizon = 4; modules = modes (mode 4 [] (by kind 1 4 ∷ by other 1 4 ∷ []) ∷ mode 4 [] [] ∷ []) ∷ [] }
+
+-- eight modes, of which the first has these switches, and each other two, the second of them an SX
+unfoldable pub eight : List Switch → Module
+eight ws = modes (mode 1 [] ws ∷ mode 1 [] (to 0 1 ∷ by SX 2 1 ∷ []) ∷ replicate 6 (mode 1 [] (to 0 1 ∷ by SX 1 1 ∷ [])))
+
+-- Request k: 129 switches of both kinds, the last one an SX.
+unfoldable pub crowded : Sheet
+crowded = record { horizon = 1; modules = eight (to 1 1 ∷ to 2 1 ∷ to 3 1 ∷ []) ∷ replicate 7 (eight (to 1 1 ∷ to 2 1 ∷ [])) }

@@ -1,17 +1,18 @@
--- The proved cases A to H, the worked sheet of slip 3 and that of request b, in one table: what the definitions give, and what documents 01 and
+-- The proved cases A to H, the worked sheet of slip 3 and those of requests b and k, in one table: what the definitions give, and what documents 01 and
 -- 02 say. Assumes nothing.
 use mathlib.Core.List.{List, [], _∷_}
 use Prim.Native.Nat.{ℕ}
 use lib.ListN.{length}
 use Rattle.model.specs.Limits.{workNumbers}
 use Rattle.model.specs.Lists.{sumOf}
+use Rattle.model.specs.Sheet.{SW, SX}
 use Rattle.model.specs.Demand.{listedDemand}
 use Rattle.model.specs.Verdict.{Quick, over, quickFrom}
 use Rattle.format.specs.Encoding.{encode}
 use Rattle.query.specs.Answer.{Answer, given}
 use Rattle.query.specs.Query.{modeAnswer, stateAnswer, moduleAnswer}
 use Rattle.lines.specs.Lines.{ascii, lines}
-use Rattle.cases.specs.Sheets.{sheetA, sheetD, sheetE, sheetF, sheetG, sheetH, suspended, factory}
+use Rattle.cases.specs.Sheets.{sheetA, sheetD, sheetE, sheetF, sheetG, sheetH, suspended, factory, leaving, releasing, twice, crowded}
 
 pub data Outcome : Type 0 where
   bytes : ℕ → Outcome
@@ -65,4 +66,15 @@ table =
     ∷ row (prints (lines (encode factory))) (prints (ascii "sheet modules 2 modes 4 tasks 4 switches 3 horizon 8\nquick clear\nexact clear\n"))
     ∷ row (demands (moduleAnswer (encode factory) 0 4 workNumbers)) (demands (given 2))
     ∷ row (demands (stateAnswer (encode factory) 0 2 0 4 workNumbers)) (demands (given 4))
+    -- request k: SW may not leave there, and SX may; SX may not where the instance from 0 to 4 is split; a run that leaves by SX inside the mode period
+    ∷ row (prints (lines (encode (leaving SW 4 2)))) (prints (ascii "refused 6 at 22\n"))
+    ∷ row (prints (lines (encode (leaving SX 4 2)))) (prints (ascii "sheet modules 2 modes 3 tasks 3 switches 2 horizon 12\nquick clear\nexact clear\n"))
+    ∷ row (prints (lines (encode (leaving SX 2 2)))) (prints (ascii "refused 6 at 22\n"))
+    ∷ row (prints (lines (encode (leaving SX 4 3))))
+    (prints (ascii "sheet modules 2 modes 3 tasks 3 switches 2 horizon 12\nquick over 6 demand 7\nexact over 0 6 demand 7\nrun 0 000011\nrun 1 000000\n"))
+    -- what would be released where the mode is left is not; a target is named once by both kinds; both count among the 128
+    ∷ row (demands (stateAnswer (encode releasing) 0 0 1 2 workNumbers)) (demands (given 1))
+    ∷ row (prints (lines (encode (twice SW SX)))) (prints (ascii "refused 6 at 18\n"))
+    ∷ row (prints (lines (encode (twice SX SW)))) (prints (ascii "refused 6 at 18\n"))
+    ∷ row (prints (lines (encode crowded))) (prints (ascii "refused 4 at 1060\n"))
     ∷ []

@@ -9,11 +9,11 @@ use native.Mathlib.Decide.{le-ind}
 use native.Mathlib.Omega.{arith}
 use borrow.Author.Tests.{eq-eqb}
 use Rattle.model.specs.Lists.{when, Nth}
-use Rattle.model.specs.Sheet.{Task, Module, Sheet}
+use Rattle.model.specs.Sheet.{Sheet}
 use Rattle.model.specs.WellFormed.{TaskRule, ModuleRule, WellFormed}
-use Rattle.model.specs.Run.{State, modeOf}
+use Rattle.model.specs.Run.{modeOf}
 use Rattle.model.proofs.Lists.{all-mem}
-use Rattle.model.proofs.Runs.{rule-at}
+use Rattle.model.proofs.Runs.{task-rule}
 use Rattle.edf.specs.Work.{Runs, Instance, IsInstance, Work, Slot, unused, given, hit, done, Order}
 use Rattle.edf.proofs.Once.{other-release}
 
@@ -41,10 +41,6 @@ nth-in [] i x n = absurd n
 nth-in (y ∷ ys) zero x n = List·Memᴰ·head n
 nth-in (y ∷ ys) (suc i) x n = List·Memᴰ·tail (nth-in ys i x n)
 
--- the rules of a task of the mode of a state
-pub task-rule : (m : Module) → ModuleRule m → (c : State) (k : Task) → List·Memᴰ k (modeOf m c .tasks) → TaskRule (modeOf m c .period) k
-task-rule m ok c k = all-mem (TaskRule (modeOf m c .period)) k (modeOf m c .tasks) (rule-at m ok (c .mode) .tasks)
-
 module _ (s : Sheet) (ok : WellFormed s) (ρs : Runs) (x : Instance) (is : IsInstance s ρs x) where
   pub owner-rule : ModuleRule (is .owner)
   owner-rule = all-mem ModuleRule (is .owner) (s .modules) (ok .modules) (nth-in (s .modules) (x .module-number) (is .owner) (is .is-owner))
@@ -56,4 +52,4 @@ module _ (s : Sheet) (ok : WellFormed s) (ρs : Runs) (x : Instance) (is : IsIns
   released-before-due = omega (arith, is .is-due, rule .works, rule .fits)
     where
       rule : TaskRule (modeOf (is .owner) (ρs (x .module-number) (x .release)) .period) (is .task)
-      rule = task-rule (is .owner) owner-rule (ρs (x .module-number) (x .release)) (is .task) task-in
+      rule = task-rule (is .owner) owner-rule (ρs (x .module-number) (x .release) .mode) (is .task) task-in

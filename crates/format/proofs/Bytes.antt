@@ -12,7 +12,8 @@ use lib.ListN.{length, getD, take, drop, length-append}
 use lib.Seq.{drop-cons, take-add, getD-append-add, getD-append-seam}
 use borrow.Author.Tests.{eqb-true}
 use Rattle.model.specs.Lists.{All}
-use Rattle.format.specs.Record.{Mark, HZ, ML, MD, TK, SW, EN, Record, hz, ml, md, tk, sw, en, markOf, fieldsOf, fields, size, code, fieldAt, markCoded, markAt, recordAt}
+use Rattle.model.specs.Sheet.{SW, SX}
+use Rattle.format.specs.Record.{Mark, HZ, ML, MD, TK, switch, EN, Record, hz, ml, md, tk, sw, en, markOf, fieldsOf, fields, size, code, fieldAt, markCoded, markAt, recordAt}
 use Rattle.format.specs.Rules.{AllSound}
 use Rattle.format.specs.Encoding.{joined, fieldBytes, recordBytes}
 use Rattle.format.specs.Refusal.{AreBytes, bytesIn, Whole, Front}
@@ -63,7 +64,8 @@ code-fits HZ = omega arith
 code-fits ML = omega arith
 code-fits MD = omega arith
 code-fits TK = omega arith
-code-fits SW = omega arith
+code-fits (switch SW) = omega arith
+code-fits (switch SX) = omega arith
 code-fits EN = omega arith
 
 bytes-record : (r : Record) → All (λ v. v < 65536) (fieldsOf r) → AreBytes (recordBytes r)
@@ -92,7 +94,7 @@ fieldsOf-recordAt HZ bs p = refl
 fieldsOf-recordAt ML bs p = refl
 fieldsOf-recordAt MD bs p = refl
 fieldsOf-recordAt TK bs p = simp add-assoc
-fieldsOf-recordAt SW bs p = simp add-assoc
+fieldsOf-recordAt (switch k) bs p = simp add-assoc
 fieldsOf-recordAt EN bs p = refl
 
 -- a test of the list of marks: the code is this mark's, or a later one's
@@ -106,7 +108,7 @@ coded-here c k m later next e = pick (eqb c (code k)) refl e
 coded : (c : ℕ) (m : Mark) → markCoded c ≡ some m → c ≡ code m
 unfolding markCoded
 coded c m =
-    coded-here c HZ m _ (coded-here c ML m _ (coded-here c MD m _ (coded-here c TK m _ (coded-here c SW m _ (coded-here c EN m none (λ e. cc))))))
+    coded-here c HZ m _ (coded-here c ML m _ (coded-here c MD m _ (coded-here c TK m _ (coded-here c (switch SW) m _ (coded-here c (switch SX) m _ (coded-here c EN m none (λ e. cc)))))))
 
 -- the two bytes of a known mark
 mark-bytes : (bs : List ℕ) → AreBytes bs → (p : ℕ) (m : Mark) → markAt bs p ≡ some m → (getD bs p 0 ≡ code m / 256) × (getD bs (p + 1) 0 ≡ code m % 256)
@@ -144,7 +146,8 @@ coded-mark HZ = refl
 coded-mark ML = refl
 coded-mark MD = refl
 coded-mark TK = refl
-coded-mark SW = refl
+coded-mark (switch SW) = refl
+coded-mark (switch SX) = refl
 coded-mark EN = refl
 
 -- a field's two bytes say its value
@@ -168,7 +171,7 @@ recordAt-append HZ bs cs = rw (fieldAt-append bs cs 2)
 recordAt-append ML bs cs = rw (fieldAt-append bs cs 2)
 recordAt-append MD bs cs = rw (fieldAt-append bs cs 2)
 recordAt-append TK bs cs = rw (fieldAt-append bs cs 2, fieldAt-append bs cs 4, fieldAt-append bs cs 6, fieldAt-append bs cs 8)
-recordAt-append SW bs cs = rw (fieldAt-append bs cs 2, fieldAt-append bs cs 4)
+recordAt-append (switch k) bs cs = rw (fieldAt-append bs cs 2, fieldAt-append bs cs 4)
 recordAt-append EN bs cs = rw (fieldAt-append bs cs 2)
 
 -- the bytes of a record, after any bytes and before any, are a whole record

@@ -8,13 +8,14 @@ use lib.Dec.{leb, ltb, eqb}
 use lib.ListN.{length, length-reverse}
 use borrow.Author.Tests.{ltb-true, leb-true, eqb-true, eqb-false, not-true}
 use Rattle.model.specs.Lists.{sumOf, All, AllFrom, Distinct}
-use Rattle.model.specs.Sheet.{Task, Switch, Mode, Module, Sheet, Counts, counts, modesIn, tasksIn, switchesIn, named}
+use Rattle.model.specs.Sheet.{Task, Kind, SW, SX, Switch, Mode, Module, Sheet, Counts, counts, modesIn, tasksIn, switchesIn, named}
 use Rattle.model.specs.Limits.{maxHorizon, maxModes, maxModePeriod, maxModeTasks}
-use Rattle.model.specs.WellFormed.{TaskRule, SwitchRule, ModeRule, ModuleRule, WellFormed}
+use Rattle.model.specs.WellFormed.{TaskRule, KindRule, SwitchRule, ModeRule, ModuleRule, WellFormed}
 use Rattle.format.specs.Record.{Record, hz, ml, md, tk, sw, en}
 use Rattle.format.specs.Encoding.{joined, modeRecords, moduleRecords, recordsBeforeEnd, records}
-use Rattle.format.specs.Rules.{ofMD, ofTK, ofSW, taken, modulesRead, stated, seen, modePeriod, tasksRead, switchesRead, isEmpty, ended, ordered, between, divides, eachDivides, taskRuled, switchRuled, ruled, Sound, AllSound}
+use Rattle.format.specs.Rules.{ofMD, ofTK, ofSwitch, taken, modulesRead, stated, seen, modePeriod, tasksRead, switchesRead, isEmpty, ended, ordered, between, divides, each, taskRuled, kindRuled, switchRuled, ruled, Sound, AllSound}
 use Rattle.format.specs.Judgement.{gather, gathered}
+use Rattle.format.proofs.KindRules.{ruled-kind}
 use Rattle.format.proofs.Sizes.{small}
 
 -- What the tests tell.
@@ -78,8 +79,8 @@ record SwitchKept (rs : List Record) (ks : List Task) (w : Switch) : Type 0 wher
   other : w .target + 1 ≡ seen rs → ⊥
   positive : 1 ≤ w .period
   divides : modePeriod rs % w .period ≡ 0
-  multiple : All (λ (k : Task). w .period % k .period ≡ 0) ks
-  multiple-before : eachDivides (tasksRead rs) (w .period) ≡ true
+  tasks : All (KindRule (w .kind) (modePeriod rs) (w .period)) ks
+  tasks-before : each (kindRuled (w .kind) (modePeriod rs) (w .period)) (tasksRead rs) ≡ true
   new : named (w .target) (switchesRead rs) ≡ false
 
 -- what is pending keeps the rules after the records
@@ -99,6 +100,12 @@ task-rule period k e =
     let second = and-eq-true-iff _ _ .0 (third .0) in
     record { works = leb-true _ _ (second .0); fits = leb-true _ _ (second .1); within = leb-true _ _ (third .1); divides = divided (k .period) period (fourth .1) .1 }
 
+-- a switch of either kind has a target that is not yet named
+new-target : (rs : List Record) (kind : Kind) (target period : ℕ) → switchRuled rs (record { kind = kind; target = target; period = period }) ≡ true → named target (switchesRead rs) ≡ false
+unfolding switchRuled
+new-target rs SW target period e = not-true _ (simp and-eq-true-iff at e .0 .0 .1)
+new-target rs SX target period e = not-true _ (simp and-eq-true-iff at e .0 .0 .1)
+
 switch-rule : (rs : List Record) (w : Switch) → switchRuled rs w ≡ true → SwitchKept rs [] w
 unfolding switchRuled
 switch-rule rs w e =
@@ -112,9 +119,9 @@ switch-rule rs w e =
       other = eqb-false _ _ (not-true _ (second .1));
       positive = d .0;
       divides = d .1;
-      multiple = tt;
-      multiple-before = fifth .1;
-      new = not-true _ (third .1);
+      tasks = tt;
+      tasks-before = fifth .1;
+      new = new-target rs (w .kind) (w .target) (w .period) e;
     }
 
 -- What is shown of the sheet s that is gathered then: its records in order, its rules and its totals.
@@ -125,7 +132,7 @@ record Gathers (rs : List Record) (ks : List Task) (ws : List Switch) (os : List
   modules : length (s .modules) ≡ modulesRead rs + length ms
   modes : counts s .modes ≡ length (taken ofMD rs) + (length os + sumOf modesIn ms)
   tasks : counts s .tasks ≡ length (taken ofTK rs) + (length ks + (modeTasks os + sumOf tasksIn ms))
-  switches : counts s .switches ≡ length (taken ofSW rs) + (length ws + (modeSwitches os + sumOf switchesIn ms))
+  switches : counts s .switches ≡ length (taken ofSwitch rs) + (length ws + (modeSwitches os + sumOf switchesIn ms))
 
 -- One record gathered, by its mark: the lists that are pending then are in order and keep the rules, and what is shown with them is shown with those before.
 
@@ -164,7 +171,7 @@ module _ (p : ℕ) (rs : List Record) (ks : List Task) (ws : List Switch) (os : 
   closedMode = record { period = p; tasks = ks; switches = ws }
 
   switch-closed : (w : Switch) → SwitchKept (md p ∷ rs) ks w → SwitchRule (stated rs) (seen rs) closedMode w
-  switch-closed w k = record { there = k .there; other = λ e. k .other (omega arith); positive = k .positive; divides = k .divides; multiple = k .multiple }
+  switch-closed w k = record { there = k .there; other = λ e. k .other (omega arith); positive = k .positive; divides = k .divides; tasks = k .tasks }
 
   at-md : AllSound (md p ∷ rs) → Fits (md p ∷ rs) ks ws os → Kept (md p ∷ rs) ks ws os ms →
       (Fits rs [] [] (closedMode ∷ os) → Kept rs [] [] (closedMode ∷ os) ms → Gathers rs [] [] (closedMode ∷ os) ms s) → Gathers (md p ∷ rs) ks ws os ms s
@@ -179,16 +186,16 @@ module _ (p : ℕ) (rs : List Record) (ks : List Task) (ws : List Switch) (os : 
 
 -- TK: one task more is pending.
 module _ (k : Task) (rs : List Record) (ks : List Task) (ws : List Switch) (os : List Mode) (ms : List Module) (s : Sheet) where
-  switch-after-task : (w : Switch) → SwitchKept (tk k ∷ rs) ks w → SwitchKept rs (k ∷ ks) w
-  switch-after-task w c =
-      let d = and-eq-true-iff (divides (k .period) (w .period)) (eachDivides (tasksRead rs) (w .period)) .0 (c .multiple-before) in
+  switch-after-task : TaskRule (modePeriod rs) k → (w : Switch) → SwitchKept (tk k ∷ rs) ks w → SwitchKept rs (k ∷ ks) w
+  switch-after-task rule w c =
+      let d = and-eq-true-iff (kindRuled (w .kind) (modePeriod rs) (w .period) k) (each (kindRuled (w .kind) (modePeriod rs) (w .period)) (tasksRead rs)) .0 (c .tasks-before) in
       record {
         there = c .there;
         other = c .other;
         positive = c .positive;
         divides = c .divides;
-        multiple = (divided (k .period) (w .period) (d .0) .1, c .multiple);
-        multiple-before = d .1;
+        tasks = (ruled-kind (modePeriod rs) (w .period) k rule (c .positive) (w .kind) (d .0), c .tasks);
+        tasks-before = d .1;
         new = c .new;
       }
 
@@ -198,13 +205,14 @@ module _ (k : Task) (rs : List Record) (ks : List Task) (ws : List Switch) (os :
   at-tk a f v next =
       let o : (ltb 0 (seen rs) ≡ true) × (isEmpty (switchesRead rs) ≡ true) = and-eq-true-iff _ _ .0 (a .2 .order) in
       let h : 0 < seen rs = ltb-true _ _ (o .0) in
+      let rule : TaskRule (modePeriod rs) k = task-rule (modePeriod rs) k (a .2 .value) in
       let fits : Fits rs (k ∷ ks) ws os =
       record { begun = begun-by rs (omega arith); open-end = a .1; tasks = (h, o .1); switches = f .switches; modes = f .modes } in
       let kept : Kept rs (k ∷ ks) ws os ms =
       record {
         count = omega (arith, v .count);
-        tasks = (task-rule (modePeriod rs) k (a .2 .value), v .tasks);
-        switches = all-to switch-after-task ws (v .switches);
+        tasks = (rule, v .tasks);
+        switches = all-to (switch-after-task rule) ws (v .switches);
         once = v .once;
         modes = v .modes;
         modules = v .modules;
@@ -212,7 +220,7 @@ module _ (k : Task) (rs : List Record) (ks : List Task) (ws : List Switch) (os :
       let g = next fits kept in
       record { order = g .order; horizon = g .horizon; rules = g .rules; modules = g .modules; modes = g .modes; tasks = omega (arith, g .tasks); switches = g .switches }
 
--- SW: one switch more is pending, with a target of its own, and no task.
+-- SW and SX: one switch more is pending, with a target of its own, and no task.
 module _ (w : Switch) (rs : List Record) (ws : List Switch) (os : List Mode) (ms : List Module) (s : Sheet) where
   named-apart : (x : Switch) → SwitchKept (sw w ∷ rs) [] x → (eqb (x .target) (w .target) ≡ false) × (named (x .target) (switchesRead rs) ≡ false)
   named-apart x c = neither _ _ (c .new)
@@ -224,8 +232,8 @@ module _ (w : Switch) (rs : List Record) (ws : List Switch) (os : List Mode) (ms
         other = c .other;
         positive = c .positive;
         divides = c .divides;
-        multiple = tt;
-        multiple-before = c .multiple-before;
+        tasks = tt;
+        tasks-before = c .tasks-before;
         new = named-apart x c .1;
       }
 
@@ -277,7 +285,7 @@ countsRead rs =
       modules = modulesRead rs;
       modes = length (taken ofMD rs);
       tasks = length (taken ofTK rs);
-      switches = length (taken ofSW rs);
+      switches = length (taken ofSwitch rs);
     }
 
 -- The laws: at EN nothing is pending.
@@ -321,5 +329,5 @@ module _ (rs : List Record) (n : ℕ) (a : AllSound (en n ∷ rs)) where
       let modules : counts (gathered (en n ∷ rs)) .modules ≡ modulesRead rs = omega (arith, g .modules) in
       let modes : counts (gathered (en n ∷ rs)) .modes ≡ length (taken ofMD rs) = omega (arith, g .modes) in
       let tasks : counts (gathered (en n ∷ rs)) .tasks ≡ length (taken ofTK rs) = omega (arith, g .tasks) in
-      let switches : counts (gathered (en n ∷ rs)) .switches ≡ length (taken ofSW rs) = omega (arith, g .switches) in
+      let switches : counts (gathered (en n ∷ rs)) .switches ≡ length (taken ofSwitch rs) = omega (arith, g .switches) in
       rw (modules, modes, tasks, switches)

@@ -10,7 +10,7 @@ use lib.Dec.{leb, ltb}
 use lib.ListN.{length}
 use borrow.Author.Tests.{ltb-true, ltb-false, leb-true, leb-false, lt-ltb, le-ltb, le-leb, lt-leb}
 use Rattle.model.specs.Sheet.{Sheet}
-use Rattle.format.specs.Record.{Mark, HZ, ML, MD, TK, SW, EN, Record, markOf, size, markAt, recordAt}
+use Rattle.format.specs.Record.{Mark, HZ, ML, MD, TK, switch, EN, Record, markOf, size, markAt, recordAt}
 use Rattle.format.specs.Rules.{ended, ordered, counted, ruled, fieldNumber}
 use Rattle.format.specs.Judgement.{Judgement, refused, accepted, Tested, fault, sound, orFault, testedMark, tested, closed, decided, judgeFrom, judgement}
 use Rattle.format.specs.Refusal.{bytesIn, Whole, Front, Refusal, no-mark, unknown-mark, cut-short, out-of-order, past-count, bad-field, bytes-after, Acceptance}
@@ -22,7 +22,7 @@ markOf-recordAt HZ bs p = refl
 markOf-recordAt ML bs p = refl
 markOf-recordAt MD bs p = refl
 markOf-recordAt TK bs p = refl
-markOf-recordAt SW bs p = refl
+markOf-recordAt (switch k) bs p = refl
 markOf-recordAt EN bs p = refl
 
 pub tested-short : (bs : List ℕ) (p : ℕ) (rs : List Record) → length bs < p + 2 → tested bs p rs ≡ fault 1
@@ -222,7 +222,7 @@ field-number HZ = omega arith
 field-number ML = omega arith
 field-number MD = omega arith
 field-number TK = omega arith
-field-number SW = omega arith
+field-number (switch k) = omega arith
 field-number EN = omega arith
 
 refusal-number : (bs : List ℕ) (n p : ℕ) → Refusal bs n p → (1 ≤ n) × (n ≤ 8)

@@ -1,3 +1,4 @@
+pub mod KindRules
 pub mod Sizes
 pub mod Gathering
 pub mod Listing

@@ -2,18 +2,19 @@
 use mathlib.Core.Path.{_≡_, refl, sym, ap}
 use mathlib.Core.Bool.{true, false}
 use mathlib.Core.List.{List, [], _∷_, _++_, map, reverse, reverseAux, reverseAux-append, append-nil}
-use Prim.Native.Nat.{ℕ, suc, _+_, _%_, _≤_, _<_}
+use Prim.Native.Nat.{ℕ, suc, _+_, _≤_, _<_}
 use native.Mathlib.Omega.{arith}
 use lib.ListN.{length, length-reverseAux}
 use borrow.Author.Tests.{lt-ltb, le-leb, eq-eqb, ne-eqb}
 use Rattle.model.specs.Lists.{sumOf, All, AllFrom, Distinct}
-use Rattle.model.specs.Sheet.{Task, Switch, Mode, Module, Sheet, tasksIn, switchesIn, named}
+use Rattle.model.specs.Sheet.{Task, Kind, Switch, Mode, Module, Sheet, tasksIn, switchesIn, named}
 use Rattle.model.specs.Limits.{maxModules, maxModeTasks, maxTasks, maxSwitches}
-use Rattle.model.specs.WellFormed.{TaskRule, SwitchRule, ModeRule, ModuleRule, WellFormed}
+use Rattle.model.specs.WellFormed.{TaskRule, KindRule, SwitchRule, ModeRule, ModuleRule, WellFormed}
 use Rattle.format.specs.Record.{Record, hz, ml, md, tk, sw, en}
 use Rattle.format.specs.Encoding.{joined, modeRecords, moduleRecords, recordsBeforeEnd, records}
-use Rattle.format.specs.Rules.{ofTK, ofSW, taken, modulesRead, stated, seen, modePeriod, tasksRead, switchesRead, isEmpty, ended, ordered, counted, eachDivides, taskRuled, switchRuled, ruled, Sound, AllSound}
+use Rattle.format.specs.Rules.{ofTK, ofSwitch, taken, modulesRead, stated, seen, modePeriod, tasksRead, switchesRead, isEmpty, ended, ordered, counted, each, taskRuled, kindRuled, switchRuled, ruled, Sound, AllSound}
 use Rattle.format.specs.Judgement.{gather, gathered}
+use Rattle.format.proofs.KindRules.{kind-ruled}
 
 -- What is gathered, level by level: the records of a part give the part.
 
@@ -61,7 +62,7 @@ record Figures (rs : List Record) (N T W n j : ℕ) : Type 0 where
   modules : modulesRead rs + N ≤ maxModules
   some : 1 ≤ modulesRead rs + N
   tasks : length (taken ofTK rs) + T ≤ maxTasks
-  switches : length (taken ofSW rs) + W ≤ maxSwitches
+  switches : length (taken ofSwitch rs) + W ≤ maxSwitches
 
 -- The records are sound, and more may follow.
 record Read (rs : List Record) (N T W n j : ℕ) : Type 0 where
@@ -119,13 +120,10 @@ all-reversed : {A : Type 0} (P : A → Type 0) (xs ys : List A) → All P xs →
 all-reversed P [] ys h k = k
 all-reversed P (x ∷ xs) ys h k = all-reversed P xs (x ∷ ys) (h .1) (h .0, k)
 
--- a task period is at least 1, so that it divides each of its multiples
-each-divides : (p n : ℕ) (ks : List Task) → All (TaskRule p) ks → All (λ (k : Task). n % k .period ≡ 0) ks → eachDivides ks n ≡ true
-each-divides p n [] h d = refl
-each-divides p n (k ∷ ks) h d = rw (le-leb 1 (k .period) (least (h .0)), eq-eqb _ _ (d .0), each-divides p n ks (h .1) (d .1))
-  where
-    least : TaskRule p k → 1 ≤ k .period
-    least r = omega arith
+-- the rule of a switch's kind passes its test for each task
+each-ruled : (period p : ℕ) (kind : Kind) → 1 ≤ p → (ks : List Task) → All (TaskRule period) ks → All (KindRule kind period p) ks → each (kindRuled kind period p) ks ≡ true
+each-ruled period p kind least [] h d = refl
+each-ruled period p kind least (k ∷ ks) h d = rw (kind-ruled period p k (h .0) least kind (d .0), each-ruled period p kind least ks (h .1) (d .1))
 
 -- the targets of the switches ws are not yet named by vs
 abbrev Fresh : List Switch → List Switch → Type 0
@@ -140,7 +138,16 @@ fresh-next w vs [] d f = tt
 fresh-next w vs (v ∷ ws) d f = (rw (ne-eqb (v .target) (w .target) (λ e. d .0 (sym e)), f .0), fresh-next w vs ws (d .1) (f .1))
 
 -- in the mode o, which has the number j, after its tasks
-module _ (o : Mode) (n j N T : ℕ) (ks : List Task) (each : (v : ℕ) → All (λ (k : Task). v % k .period ≡ 0) (o .tasks) → eachDivides ks v ≡ true) where
+module _ (o : Mode) (n j N T : ℕ) (rules : All (TaskRule (o .period)) (o .tasks)) where
+  -- the tasks of the mode, the last one first
+  abbrev ks : List Task
+  ks = reverse (o .tasks)
+
+  switch-ruled : (w : Switch) → SwitchRule n j o w → each (kindRuled (w .kind) (o .period) (w .period)) ks ≡ true
+  switch-ruled w h =
+      each-ruled (o .period) (w .period) (w .kind) (h .positive) ks (all-reversed (TaskRule (o .period)) (o .tasks) [] rules tt)
+      (all-reversed (KindRule (w .kind) (o .period) (w .period)) (o .tasks) [] (h .tasks) tt)
+
   switch-read : (w : Switch) (rs : List Record) (W : ℕ) (vs : List Switch)
       → Read rs N T (suc W) n (suc j) → InMode rs (o .period) ks vs → SwitchRule n j o w → named (w .target) vs ≡ false → Read (sw w ∷ rs) N T W n (suc j)
   unfolding ordered counted ruled switchRuled
@@ -148,11 +155,11 @@ module _ (o : Mode) (n j N T : ℕ) (ks : List Task) (each : (v : ℕ) → All (
       read-next r
       (record {
         order = lt-ltb 0 (seen rs) (omega arith);
-        count = lt-ltb (length (taken ofSW rs)) maxSwitches (omega arith);
+        count = lt-ltb (length (taken ofSwitch rs)) maxSwitches (omega arith);
         value =
             let there : w .target < stated rs = omega arith in
             let other : w .target + 1 ≡ seen rs → ⊥ = λ e. h .other (omega arith) in
-            rw (lt-ltb _ _ there, ne-eqb _ _ other, i .switches, new, i .period, le-leb _ _ (h .positive), eq-eqb _ _ (h .divides), i .tasks, each (w .period) (h .multiple));
+            rw (lt-ltb _ _ there, ne-eqb _ _ other, i .switches, new, i .period, le-leb _ _ (h .positive), eq-eqb _ _ (h .divides), i .tasks, switch-ruled w h);
       })
       refl (omega arith)
 
@@ -175,12 +182,7 @@ mode-read o rs N T W n j r l h =
     let s : Sound rs (md (o .period)) = record { order = lt-ltb (seen rs) (stated rs) (omega arith); count = refl; value = rw (le-leb _ _ (h .least), le-leb _ _ (h .most)) } in
     let (t, i) = tasks-read N (length (o .switches) + W) n j (o .period) (o .tasks) opened T [] (read-next r s refl (omega arith)) (record { period = refl; tasks = refl; switches = refl }) (h .tasks) (omega arith) in
     rw reverseAux-append
-    (switches-read o n j N T (reverse (o .tasks)) each (o .switches) (reverseAux (map tk (o .tasks)) opened) W [] t i (h .switches) (h .once) (all-fresh (o .switches)))
-  where
-    each : (v : ℕ) → All (λ (k : Task). v % k .period ≡ 0) (o .tasks) → eachDivides (reverse (o .tasks)) v ≡ true
-    each v d =
-        each-divides (o .period) v (reverse (o .tasks)) (all-reversed (TaskRule (o .period)) (o .tasks) [] (h .tasks) tt)
-        (all-reversed (λ (k : Task). v % k .period ≡ 0) (o .tasks) [] d tt)
+    (switches-read o n j N T (h .tasks) (o .switches) (reverseAux (map tk (o .tasks)) opened) W [] t i (h .switches) (h .once) (all-fresh (o .switches)))
 
 modes-read : (os : List Mode) (rs : List Record) (N T W n j : ℕ)
     → Read rs N (sumOf (λ (o : Mode). length (o .tasks)) os + T) (sumOf (λ (o : Mode). length (o .switches)) os + W) n j → j + length os ≡ n → AllFrom (ModeRule n) j os

@@ -9,24 +9,24 @@ use lib.Dec.{eqb}
 use lib.ListN.{length, replicate}
 use borrow.Author.Tests.{ltb-true, leb-true, eqb-true}
 use Rattle.model.specs.Lists.{when, All, AllFrom}
-use Rattle.model.specs.Sheet.{Mode, Module, Sheet}
+use Rattle.model.specs.Sheet.{SW, SX, Mode, Module, Sheet}
 use Rattle.model.specs.Limits.{maxModules, maxModes, maxModePeriod, maxModeTasks, maxTasks, maxSwitches, maxBytes}
 use Rattle.model.specs.WellFormed.{ModeRule, ModuleRule, WellFormed}
 use Rattle.format.specs.Record.{Record, hz, ml, md, tk, sw, en, fieldsOf}
 use Rattle.format.specs.Encoding.{modeRecords, moduleRecords, recordsBeforeEnd, records, recordBytes, encode}
-use Rattle.format.specs.Rules.{ofMD, ofTK, ofSW, taken, modulesRead, stated, seen, modePeriod, tasksRead, ended, ordered, counted, taskRuled, switchRuled, ruled, Sound, AllSound}
+use Rattle.format.specs.Rules.{ofMD, ofTK, ofSwitch, taken, modulesRead, stated, seen, modePeriod, tasksRead, ended, ordered, counted, taskRuled, switchRuled, ruled, Sound, AllSound}
 use Rattle.format.specs.Refusal.{bytesIn}
 
 -- The bytes follow from the counts of the records, and each module takes at most the modes that its ML states.
 pub record Small (rs : List Record) : Type 0 where
-  pub bytes : bytesIn rs ≤ 4 + 4 * modulesRead rs + 4 * length (taken ofMD rs) + 10 * length (taken ofTK rs) + 6 * length (taken ofSW rs) + when (ended rs) 4
+  pub bytes : bytesIn rs ≤ 4 + 4 * modulesRead rs + 4 * length (taken ofMD rs) + 10 * length (taken ofTK rs) + 6 * length (taken ofSwitch rs) + when (ended rs) 4
   pub modes : length (taken ofMD rs) + stated rs ≤ 8 * modulesRead rs + seen rs
   pub opened : seen rs ≤ stated rs
   pub states : stated rs ≤ maxModes
   pub modules : modulesRead rs ≤ maxModules
   pub mode-tasks : length (tasksRead rs) ≤ maxModeTasks
   pub tasks : length (taken ofTK rs) ≤ maxTasks
-  pub switches : length (taken ofSW rs) ≤ maxSwitches
+  pub switches : length (taken ofSwitch rs) ≤ maxSwitches
 
 small-next : (r : Record) (rs : List Record) → when (ended rs) 4 ≡ 0 → Sound rs r → Small rs → Small (r ∷ rs)
 unfolding ordered counted ruled
@@ -105,7 +105,7 @@ mode a b =
     record {
       period = 1;
       tasks = replicate 4 (record { offset = 0; cost = 1; LET = 1; period = 1 });
-      switches = record { target = a; period = 1 } ∷ record { target = b; period = 1 } ∷ [];
+      switches = record { kind = SW; target = a; period = 1 } ∷ record { kind = SX; target = b; period = 1 } ∷ [];
     }
 
 -- the first two modes name each other and the third, all others the first two

@@ -10,7 +10,7 @@ abbrev pub joined : {A B : Type 0} → (A → List B) → List A → List B
 joined f [] = []
 joined f (x ∷ xs) = f x ++ joined f xs
 
--- A mode is MD, then its TK records, then its SW records.
+-- A mode is MD, then its TK records, then its SW and SX records.
 unfoldable pub modeRecords : Mode → List Record
 modeRecords o = md (o .period) ∷ (map tk (o .tasks) ++ map sw (o .switches))
 

@@ -4,7 +4,7 @@ use lib.ListN.{length, take}
 use Rattle.model.specs.Lists.{sumOf}
 use Rattle.model.specs.Sheet.{Mode, Module, Sheet, moduleAt}
 
--- MD, the TK records and the SW records of a mode
+-- MD, the TK records and the SW and SX records of a mode
 abbrev pub modeBytes : Mode → ℕ
 modeBytes o = 4 + 10 * length (o .tasks) + 6 * length (o .switches)
 

@@ -1,16 +1,18 @@
--- Records: marks, fields and where they stand in the bytes (document 01, 'The sheet'). Assumes nothing.
+-- Records: marks, fields and where they stand in the bytes (document 01, 'The sheet'; document 02, k). Assumes nothing.
 use mathlib.Core.Bool.{cond}
 use mathlib.Core.Option.{Option, none, some}
 use mathlib.Core.List.{List, [], _∷_}
 use Prim.Native.Nat.{ℕ, _+_, _*_}
 use lib.Dec.{eqb}
 use lib.ListN.{getD}
-use Rattle.model.specs.Sheet.{Task, Switch}
+use Rattle.model.specs.Sheet.{Task, Kind, SW, SX, Switch}
 
 pub data Mark : Type 0 where
-  HZ ML MD TK SW EN : Mark
+  HZ ML MD TK EN : Mark
+  -- SW or SX
+  switch : Kind → Mark
 
--- A record is a mark and its fields; a task and a switch are their fields in order.
+-- A record is a mark and its fields; a task is its fields in order, and so is a switch after its kind, which its mark says.
 pub data Record : Type 0 where
   hz : ℕ → Record
   ml : ℕ → Record
@@ -24,7 +26,7 @@ markOf (hz h) = HZ
 markOf (ml n) = ML
 markOf (md p) = MD
 markOf (tk k) = TK
-markOf (sw w) = SW
+markOf (sw w) = switch (w .kind)
 markOf (en n) = EN
 
 -- The table of marks and fields.
@@ -43,7 +45,7 @@ fields HZ = 1
 fields ML = 1
 fields MD = 1
 fields TK = 4
-fields SW = 2
+fields (switch k) = 2
 fields EN = 1
 
 -- how many bytes: two of the mark, two of each field
@@ -56,7 +58,8 @@ code HZ = 0x485A
 code ML = 0x4D4C
 code MD = 0x4D44
 code TK = 0x544B
-code SW = 0x5357
+code (switch SW) = 0x5357
+code (switch SX) = 0x5358
 code EN = 0x454E
 
 -- What stands in the bytes at a place.
@@ -72,17 +75,22 @@ markCoded c =
     (cond (eqb c (code ML)) (some ML)
     (cond (eqb c (code MD)) (some MD)
     (cond (eqb c (code TK)) (some TK)
-    (cond (eqb c (code SW)) (some SW)
-    (cond (eqb c (code EN)) (some EN) none)))))
+    (cond (eqb c (code (switch SW))) (some (switch SW))
+    (cond (eqb c (code (switch SX))) (some (switch SX))
+    (cond (eqb c (code EN)) (some EN) none))))))
 
 abbrev pub markAt : List ℕ → ℕ → Option Mark
 markAt bs p = markCoded (getD bs p 0 * 256 + getD bs (p + 1) 0)
+
+-- the task of the TK at the place p
+abbrev pub taskAt : List ℕ → ℕ → Task
+taskAt bs p = record { offset = fieldAt bs (p + 2); cost = fieldAt bs (p + 4); LET = fieldAt bs (p + 6); period = fieldAt bs (p + 8) }
 
 -- the record of this mark at the place p
 abbrev pub recordAt : Mark → List ℕ → ℕ → Record
 recordAt HZ bs p = hz (fieldAt bs (p + 2))
 recordAt ML bs p = ml (fieldAt bs (p + 2))
 recordAt MD bs p = md (fieldAt bs (p + 2))
-recordAt TK bs p = tk (record { offset = fieldAt bs (p + 2); cost = fieldAt bs (p + 4); LET = fieldAt bs (p + 6); period = fieldAt bs (p + 8) })
-recordAt SW bs p = sw (record { target = fieldAt bs (p + 2); period = fieldAt bs (p + 4) })
+recordAt TK bs p = tk (taskAt bs p)
+recordAt (switch k) bs p = sw (record { kind = k; target = fieldAt bs (p + 2); period = fieldAt bs (p + 4) })
 recordAt EN bs p = en (fieldAt bs (p + 2))

@@ -1,18 +1,19 @@
--- The tests of one record against the records read so far: order (3), counts (4), values (5, 6, 7) (document 01, 'Refusal numbers').
+-- The tests of one record against the records read so far: order (3), counts (4), values (5, 6, 7) (document 01, 'Refusal numbers'; document 02, k).
 -- The records read so far are a list with the last one first. Assumes nothing.
 use mathlib.Core.Path.{_≡_}
 use mathlib.Core.Bool.{Bool, true, false, not, _&&_}
 use mathlib.Core.List.{List, [], _∷_, _++_}
-use Prim.Native.Nat.{ℕ, _+_, _%_}
+use Prim.Native.Nat.{ℕ, suc, _+_, _*_, _/_, _%_}
 use lib.Dec.{leb, ltb, eqb}
 use lib.ListN.{length}
-use Rattle.model.specs.Sheet.{Task, Switch, named}
+use Rattle.model.specs.Lists.{anyBelow}
+use Rattle.model.specs.Sheet.{Task, Kind, SW, SX, Switch, named}
 use Rattle.model.specs.Limits.{maxHorizon, maxModules, maxModes, maxModePeriod, maxModeTasks, maxTasks, maxSwitches}
-use Rattle.format.specs.Record.{Mark, HZ, ML, MD, TK, SW, EN, Record, hz, ml, md, tk, sw, en, markOf}
+use Rattle.format.specs.Record.{Mark, HZ, ML, MD, TK, switch, EN, Record, hz, ml, md, tk, sw, en, markOf}
 
 -- What has been read.
 
--- the number of a record of that mark; of any other nothing
+-- what a record of that mark has, and a switch of either kind; of any other record nothing
 abbrev pub ofML : Record → List ℕ
 ofML (hz h) = []
 ofML (ml n) = n ∷ []
@@ -37,13 +38,13 @@ ofTK (tk k) = k ∷ []
 ofTK (sw w) = []
 ofTK (en n) = []
 
-abbrev pub ofSW : Record → List Switch
-ofSW (hz h) = []
-ofSW (ml n) = []
-ofSW (md p) = []
-ofSW (tk k) = []
-ofSW (sw w) = w ∷ []
-ofSW (en n) = []
+abbrev pub ofSwitch : Record → List Switch
+ofSwitch (hz h) = []
+ofSwitch (ml n) = []
+ofSwitch (md p) = []
+ofSwitch (tk k) = []
+ofSwitch (sw w) = w ∷ []
+ofSwitch (en n) = []
 
 -- what f takes from the records
 abbrev pub taken : {A : Type 0} → (Record → List A) → List Record → List A
@@ -83,7 +84,7 @@ abbrev pub tasksRead : List Record → List Task
 tasksRead rs = taken ofTK (since ofMD rs)
 
 abbrev pub switchesRead : List Record → List Switch
-switchesRead rs = taken ofSW (since ofMD rs)
+switchesRead rs = taken ofSwitch (since ofMD rs)
 
 abbrev pub isEmpty : {A : Type 0} → List A → Bool
 isEmpty [] = true
@@ -99,22 +100,22 @@ ended (tk k ∷ rs) = false
 ended (sw w ∷ rs) = false
 ended (en n ∷ rs) = true
 
--- 3: one HZ; one or more modules; EN. A module has exactly the stated number of modes. A mode is MD, then its TK, then its SW records.
+-- 3: one HZ; one or more modules; EN. A module has exactly the stated number of modes. A mode is MD, then its TK, then its SW and SX records.
 unfoldable pub ordered : Mark → List Record → Bool
 ordered HZ rs = isEmpty rs
 ordered ML rs = not (isEmpty rs) && eqb (seen rs) (stated rs)
 ordered MD rs = ltb (seen rs) (stated rs)
 ordered TK rs = ltb 0 (seen rs) && isEmpty (switchesRead rs)
-ordered SW rs = ltb 0 (seen rs)
+ordered (switch k) rs = ltb 0 (seen rs)
 ordered EN rs = ltb 0 (modulesRead rs) && eqb (seen rs) (stated rs)
 
--- 4: ninth ML, 17th TK in a mode, 257th TK, or 129th SW
+-- 4: ninth ML, 17th TK in a mode, 257th TK, or 129th of SW and SX together
 unfoldable pub counted : Mark → List Record → Bool
 counted HZ rs = true
 counted ML rs = ltb (modulesRead rs) maxModules
 counted MD rs = true
 counted TK rs = ltb (length (tasksRead rs)) maxModeTasks && ltb (length (taken ofTK rs)) maxTasks
-counted SW rs = ltb (length (taken ofSW rs)) maxSwitches
+counted (switch k) rs = ltb (length (taken ofSwitch rs)) maxSwitches
 counted EN rs = true
 
 abbrev pub between : ℕ → ℕ → ℕ → Bool
@@ -124,19 +125,34 @@ between least most n = leb least n && leb n most
 abbrev pub divides : ℕ → ℕ → Bool
 divides p n = leb 1 p && eqb (n % p) 0
 
-abbrev pub eachDivides : List Task → ℕ → Bool
-eachDivides [] n = true
-eachDivides (k ∷ ks) n = divides (k .period) n && eachDivides ks n
+-- the test passes for each element
+abbrev pub each : {A : Type 0} → (A → Bool) → List A → Bool
+each q [] = true
+each q (x ∷ xs) = q x && each q xs
 
 -- in a mode of this period
 unfoldable pub taskRuled : ℕ → Task → Bool
 taskRuled period k = leb 1 (k .cost) && leb (k .cost) (k .LET) && leb (k .offset + k .LET) (k .period) && divides (k .period) period
 
+-- x splits an instance of the task: the rest that it leaves, divided by the task period, lies strictly between offset and offset + LET
+abbrev pub splits : Task → ℕ → Bool
+splits k x = ltb (k .offset) (x % k .period) && ltb (x % k .period) (k .offset + k .LET)
+
+-- no positive multiple of p up to the mode period splits an instance
+abbrev pub keepsWhole : ℕ → ℕ → Task → Bool
+keepsWhole period p k = not (anyBelow (λ j. splits k (suc j * p)) (period / p))
+
+-- The rule of a switch's kind for the switch period p and a task, in a mode of this period: of SW, p is a multiple of the task period;
+-- of SX, no positive multiple of p up to the mode period splits an instance. A task period of 0, which no task that was read has, keeps neither.
+unfoldable pub kindRuled : Kind → ℕ → ℕ → Task → Bool
+kindRuled SW period p k = divides (k .period) p
+kindRuled SX period p k = leb 1 (k .period) && keepsWhole period p k
+
 -- the target is a mode of the same module, is not the mode itself (which is the last one seen), and is named once in a mode;
--- the switch period is at least 1, divides the mode period and is a multiple of every task period of the mode
+-- the switch period is at least 1, divides the mode period and keeps the rule of its kind for every task of the mode
 unfoldable pub switchRuled : List Record → Switch → Bool
 switchRuled rs w =
-    ltb (w .target) (stated rs) && not (eqb (w .target + 1) (seen rs)) && not (named (w .target) (switchesRead rs)) && divides (w .period) (modePeriod rs) && eachDivides (tasksRead rs) (w .period)
+    ltb (w .target) (stated rs) && not (eqb (w .target + 1) (seen rs)) && not (named (w .target) (switchesRead rs)) && divides (w .period) (modePeriod rs) && each (kindRuled (w .kind) (modePeriod rs) (w .period)) (tasksRead rs)
 
 -- 5, 6, 7: a field breaks its rule
 unfoldable pub ruled : Record → List Record → Bool
@@ -153,7 +169,7 @@ fieldNumber HZ = 5
 fieldNumber ML = 5
 fieldNumber MD = 5
 fieldNumber TK = 5
-fieldNumber SW = 6
+fieldNumber (switch k) = 6
 fieldNumber EN = 7
 
 -- the record meets its tests after the records read so far

@@ -23,17 +23,17 @@ use Rattle.judge.specs.Reading.{horizonRead, Reads, Within, Turned, Step
 pub record CameTo (bs : List ℕ) (st : Sheet) : Type 0 where
   pub read : List Record
   pub front : Front bs read
-  pub state : Reads st read
+  pub state : Reads bs st read
 
 -- before the first record
-pub begins : (bs : List ℕ) (st : Sheet) → Reads st [] → CameTo bs st
+pub begins : (bs : List ℕ) (st : Sheet) → Reads bs st [] → CameTo bs st
 begins bs st h = record { read = []; front = tt; state = h }
 
 module _ (bs : List ℕ) (st : Sheet) (r : CameTo bs st) where
   pub within : st .ended ≡ false → Within bs st
   within g =
       let s = front-sound bs (r .read) (r .front) in
-      let h : Reads st (r .read) = r .state in
+      let h : Reads bs st (r .read) = r .state in
       let q : Small (r .read) = small (r .read) s in
       let inside : bytesIn (r .read) ≤ length bs = front-fits bs (r .read) (r .front) in
       let size = sound-size (r .read) s in
@@ -49,6 +49,7 @@ module _ (bs : List ℕ) (st : Sheet) (r : CameTo bs st) where
         stated = omega arith;
         seen = omega arith;
         held = omega arith;
+        tasks-passed = h .tasks-passed;
         going = g;
       }
 
@@ -57,8 +58,8 @@ module _ (bs : List ℕ) (st : Sheet) (r : CameTo bs st) where
 
   -- one step on
   module _ (g : st .ended ≡ false) (t : Turn) (s : Steps bs st t) where
-    by-test : (x : Tested) → tested bs (st .at) (r .read) ≡ x → Turned st t (r .read) x
-    by-test x e = subst (Turned st t (r .read)) e (s (r .read) (r .state))
+    by-test : (x : Tested) → tested bs (st .at) (r .read) ≡ x → Turned bs st t (r .read) x
+    by-test x e = subst (Turned bs st t (r .read)) e (s (r .read) (r .state))
 
     next-test : (x : Tested) → tested bs (st .at) (r .read) ≡ x → Next bs (r .read) x
     next-test x e =
@@ -76,7 +77,7 @@ module _ (bs : List ℕ) (st : Sheet) (r : CameTo bs st) where
             absurd (omega arith)
         pick (sound x) q =
             let f : Front bs (x ∷ r .read) = next-test (sound x) q in
-            let h : Reads (t .next) (x ∷ r .read) = by-test (sound x) q .1 in
+            let h : Reads bs (t .next) (x ∷ r .read) = by-test (sound x) q .1 in
             (record { read = x ∷ r .read; front = f; state = h }, omega (arith, r .state .at), omega (arith, front-fits bs (x ∷ r .read) f))
 
     -- a fault is the refusal
@@ -123,7 +124,7 @@ gathered-horizon (en n ∷ rs) ks ws os ms = gathered-horizon rs _ _ _ _
 pub is-accepted : (bs : List ℕ) (st : Sheet) → CameTo bs st → st .ended ≡ true → length bs ≤ st .at
     → told-accepted (record { modules = st .modules; modes = st .modes; tasks = st .tasks; switches = st .switches }) (st .horizon) ≡ tellsOf (judgement bs)
 is-accepted bs st r e l =
-    let h : Reads st (r .read) = r .state in
+    let h : Reads bs st (r .read) = r .state in
     let c = ended-listed (r .read) (closes bs st r e) (front-sound bs (r .read) (r .front)) .all-counted in
     let z = gathered-horizon (r .read) [] [] [] [] in
     rw (is-whole bs st r e l, c, z, ← h .modules, ← h .modes, ← h .tasks, ← h .switches, ← h .horizon)

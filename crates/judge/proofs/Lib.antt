@@ -1,3 +1,4 @@
+pub mod Multiples
 pub mod Turns
 pub mod CameTo
 pub mod JudgedLaws

@@ -1,15 +1,15 @@
 // Judges the bytes of a timing sheet, record by record from the front.
 ghost use mathlib.Core.Path.{_≡_};
-ghost use mathlib.Core.List.{[]};
-ghost use Prim.Native.Nat.{_+_, _≤_};
+ghost use mathlib.Core.List.{List, []};
+ghost use Prim.Native.Nat.{ℕ, _+_, _*_, _≤_};
 ghost use lib.ListN.{length};
-ghost use Rattle.model.specs.Limits.{maxModes, maxModeTasks, maxBytes};
-ghost use Rattle.format.specs.Record.{HZ, ML, MD, TK, SW, EN, sw, size, markCoded, markAt, recordAt};
-ghost use Rattle.format.specs.Rules.{between, divides, taskRuled};
+ghost use Rattle.model.specs.Limits.{maxModes, maxBytes};
+ghost use Rattle.format.specs.Record.{HZ, ML, MD, TK, switch, EN, sw, size, markCoded, markAt, recordAt};
+ghost use Rattle.format.specs.Rules.{between, divides, taskRuled, splits, keepsWhole, each, kindRuled};
 ghost use Rattle.format.specs.Judgement.{judgement};
 ghost use Rattle.place.specs.Numbers.{taskOf};
 ghost use Rattle.judge.specs.Told.{told, tellsOf};
-ghost use Rattle.judge.specs.Reading.{marked, found, switchOf, inOrder, eachOf, switchKept, onward, Reads, Within, Room, Judges, Steps};
+ghost use Rattle.judge.specs.Reading.{kindOf, marked, found, switchOf, inOrder, tasksAt, switchKept, onward, Reads, Within, Room, Judges, Steps};
 use place::Task;
 
 // The judgement of a sheet.
@@ -27,17 +27,25 @@ pub enum Judged {
     },
 }
 
+// The kind of a switch.
+enum Kind {
+    Sw,
+    Sx,
+}
+
 enum Mark {
     Hz,
     Ml,
     Md,
     Tk,
-    Sw,
+    // SW or SX.
+    Switch(Kind),
     En,
 }
 
-// The fields of SW.
+// A switch, with the fields of SW and SX.
 struct Switch {
+    kind: Kind,
     target: u16,
     period: u16,
 }
@@ -90,7 +98,8 @@ fn listed(code: u16) -> Found
         0x4D4C => Found::Listed(Mark::Ml),
         0x4D44 => Found::Listed(Mark::Md),
         0x544B => Found::Listed(Mark::Tk),
-        0x5357 => Found::Listed(Mark::Sw),
+        0x5357 => Found::Listed(Mark::Switch(Kind::Sw)),
+        0x5358 => Found::Listed(Mark::Switch(Kind::Sx)),
         0x454E => Found::Listed(Mark::En),
         _ => Found::Unlisted,
     }
@@ -106,14 +115,18 @@ fn mark_at(s: &[u8], i: usize) -> Found
     listed(high * 256 + low)
 }
 
-// The fields of the SW at i.
-fn switch_at(s: &[u8], i: usize) -> Switch
-    requires { ⌜ i + size SW ≤ length (now s) ⌝ }
-    ensures { λ r. ⌜ sw (switchOf r) ≡ recordAt SW (now (s .entry)) i ⌝ }
+// The switch of this kind at i.
+fn switch_at(kind: Kind, s: &[u8], i: usize) -> Switch
+    requires { ⌜ i + size (switch (kindOf kind)) ≤ length (now s) ⌝ }
+    ensures { λ r. ⌜ sw (switchOf r) ≡ recordAt (switch (kindOf kind)) (now (s .entry)) i ⌝ }
 {
     let target = place::field(s, i + 2);
     let period = place::field(s, i + 4);
-    Switch { target, period }
+    Switch {
+        kind,
+        target,
+        period,
+    }
 }
 
 // How many bytes a record of this mark has.
@@ -125,7 +138,7 @@ fn bytes_of(m: Mark) -> usize
         Mark::Ml => 4,
         Mark::Md => 4,
         Mark::Tk => 10,
-        Mark::Sw => 6,
+        Mark::Switch(_) => 6,
         Mark::En => 4,
     }
 }
@@ -165,6 +178,54 @@ fn task_keeps(mode: u16, k: Task) -> bool
     is_divisor(k.period, mode)
 }
 
+// x splits an instance of the task: it falls strictly between its release and its due tick.
+fn is_split(k: Task, x: u16) -> bool
+    requires { ⌜ 1 ≤ k .period ⌝ }
+    ensures { λ r. ⌜ r ≡ splits (taskOf k) x ⌝ }
+{
+    let rest = x % k.period;
+    if rest <= k.offset {
+        return false;
+    }
+    (rest as u32) < k.offset as u32 + k.due as u32
+}
+
+// No positive multiple of p up to the mode period splits an instance of the task.
+fn keeps_whole(mode: u16, p: u16, k: Task) -> bool
+    requires { ⌜ (1 ≤ p) × (1 ≤ k .period) ⌝ }
+    ensures { λ r. ⌜ r ≡ keepsWhole mode p (taskOf k) ⌝ }
+{
+    let multiples = mode / p;
+    let mut j: u16 = 0;
+    let mut x: u16 = 0;
+    while j < multiples {
+        x = x + p;
+        if is_split(k, x) {
+            return false;
+        }
+        j = j + 1;
+    }
+    true
+}
+
+// The rule of the switch's kind for a task, in a mode of the period mode.
+fn kind_keeps(mode: u16, w: Switch, k: Task) -> bool
+    requires { ⌜ 1 ≤ w .period ⌝ }
+    ensures { λ r. ⌜ r ≡ kindRuled (kindOf (w .kind)) mode (w .period) (taskOf k) ⌝ }
+{
+    let kind = w.kind;
+    match kind {
+        Kind::Sw => is_divisor(k.period, w.period),
+        Kind::Sx => {
+            // Never so of a task that was read; the rest is of a period from 1 on.
+            if k.period < 1 {
+                return false;
+            }
+            keeps_whole(mode, w.period, k)
+        }
+    }
+}
+
 // What has been read so far.
 pub struct Sheet {
     // Where the next record begins.
@@ -178,14 +239,14 @@ pub struct Sheet {
     // How many modes the open module states, and how many of them are read.
     stated: u16,
     seen: u16,
-    // The open mode: its period, how many tasks it has, whether it has a switch.
+    // The open mode: its period, where its tasks begin, how many they are, whether it has a switch.
     period: u16,
+    from: usize,
     held: u16,
     switching: bool,
     // EN is read.
     ended: bool,
-    // Of the open mode: the periods of its tasks, and the modes that its switches name.
-    periods: [u16; Sheet::MAX_MODE_TASKS as usize],
+    // The modes that the switches of the open mode name.
     named: [bool; Sheet::MAX_MODES as usize],
 }
 
@@ -213,7 +274,7 @@ impl Sheet {
 
     // Before the first record.
     pub fn new() -> Self
-        ensures { λ r. ⌜ Reads r [] ⌝ }
+        ensures { λ r. ⌜ ((bs : List ℕ) → Reads bs r []) ⌝ }
     {
         Self {
             at: 0,
@@ -226,10 +287,10 @@ impl Sheet {
             stated: 0,
             seen: 0,
             period: 0,
+            from: 0,
             held: 0,
             switching: false,
             ended: false,
-            periods: [0; Self::MAX_MODE_TASKS as usize],
             named: [false; Self::MAX_MODES as usize],
         }
     }
@@ -243,7 +304,7 @@ impl Sheet {
             Mark::Ml => 0 < self.records && self.seen == self.stated,
             Mark::Md => self.seen < self.stated,
             Mark::Tk => 0 < self.seen && !self.switching,
-            Mark::Sw => 0 < self.seen,
+            Mark::Switch(_) => 0 < self.seen,
             Mark::En => 0 < self.modules && self.seen == self.stated,
         }
     }
@@ -313,6 +374,7 @@ impl Sheet {
         self.modes = self.modes + 1;
         self.seen = self.seen + 1;
         self.period = period;
+        self.from = at + bytes_of(Mark::Md);
         self.held = 0;
         self.switching = false;
         self.named = [false; Self::MAX_MODES as usize];
@@ -334,23 +396,21 @@ impl Sheet {
         if !task_keeps(self.period, k) {
             return self.refused(BAD_FIELD, at);
         }
-        let i = self.held as usize;
-        self.periods[i] = k.period;
         self.held = self.held + 1;
         self.tasks = self.tasks + 1;
         self.past(Mark::Tk)
     }
 
-    // n is a multiple of every task period of the mode.
-    fn spans_tasks(self, n: u16) -> bool
-        requires { ⌜ self .held ≤ maxModeTasks ⌝ }
-        ensures { λ r. ⌜ r ≡ eachOf (self .held) (self .periods) n ⌝ }
+    // The rule of the switch's kind holds for every task of the mode.
+    fn tasks_allow(self, w: Switch, s: &[u8]) -> bool
+        requires { ⌜ (1 ≤ w .period) × (self .from + 10 * self .held ≤ length (now s)) ⌝ }
+        ensures { λ r. ⌜ r ≡ each (kindRuled (kindOf (w .kind)) (self .period) (w .period)) (tasksAt (now (s .entry)) (self .from) (self .held)) ⌝ }
     {
         let tasks = self.held as usize;
         let mut i: usize = 0;
         while i < tasks {
-            let p = self.periods[i];
-            if !is_divisor(p, n) {
+            let k = place::task_at(s, self.from + 10 * i);
+            if !kind_keeps(self.period, w, k) {
                 return false;
             }
             i = i + 1;
@@ -359,9 +419,9 @@ impl Sheet {
     }
 
     // The switch rules, in the mode that is open.
-    fn switch_keeps(self, w: Switch) -> bool
-        requires { ⌜ (self .held ≤ maxModeTasks) × (self .stated ≤ maxModes) ⌝ }
-        ensures { λ r. ⌜ r ≡ switchKept self (switchOf w) ⌝ }
+    fn switch_keeps(self, w: Switch, s: &[u8]) -> bool
+        requires { ⌜ (self .from + 10 * self .held ≤ length (now s)) × (self .stated ≤ maxModes) ⌝ }
+        ensures { λ r. ⌜ r ≡ switchKept (now (s .entry)) self (switchOf w) ⌝ }
     {
         if self.stated <= w.target {
             return false;
@@ -376,26 +436,26 @@ impl Sheet {
         if !is_divisor(w.period, self.period) {
             return false;
         }
-        self.spans_tasks(w.period)
+        self.tasks_allow(w, s)
     }
 
-    fn switch_record(mut self, s: &[u8]) -> Turn
-        requires { ⌜ Room SW (now s) self ⌝ }
-        ensures { λ r. ⌜ Judges SW (now (s .entry)) self r ⌝ }
+    fn switch_record(mut self, kind: Kind, s: &[u8]) -> Turn
+        requires { ⌜ Room (switch (kindOf kind)) (now s) self ⌝ }
+        ensures { λ r. ⌜ Judges (switch (kindOf kind)) (now (s .entry)) self r ⌝ }
     {
         let at = self.at;
         if Self::MAX_SWITCHES <= self.switches {
             return self.refused(PAST_COUNT, at);
         }
-        let w = switch_at(s, at);
-        if !self.switch_keeps(w) {
+        let w = switch_at(kind, s, at);
+        if !self.switch_keeps(w, s) {
             return self.refused(BAD_SWITCH, at);
         }
         let k = w.target as usize;
         self.named[k] = true;
         self.switches = self.switches + 1;
         self.switching = true;
-        self.past(Mark::Sw)
+        self.past(Mark::Switch(kind))
     }
 
     fn end_record(mut self, s: &[u8]) -> Turn
@@ -421,7 +481,7 @@ impl Sheet {
             Mark::Ml => self.module_record(s),
             Mark::Md => self.mode_record(s),
             Mark::Tk => self.task_record(s),
-            Mark::Sw => self.switch_record(s),
+            Mark::Switch(kind) => self.switch_record(kind, s),
             Mark::En => self.end_record(s),
         }
     }

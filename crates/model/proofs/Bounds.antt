@@ -4,7 +4,7 @@ use mathlib.Core.Path.{_≡_, refl, subst}
 use mathlib.Core.Bool.{Bool, true, false, _&&_}
 use mathlib.Core.List.{List, [], _∷_, List·Memᴰ, List·Memᴰ·head, List·Memᴰ·tail}
 use Prim.Native.Nat.{ℕ, zero, suc, _+_, _-_, _*_, _%_, _≤_, _<_, min}
-use native.Mathlib.Nat.{suc-mod, mod-lt, mod-eq-of-lt, mod-self, dvd-trans, dvd-of-mod-eq-zero, mod-eq-zero-of-dvd, mul-suc, suc-mul, sub-zero}
+use native.Mathlib.Nat.{suc-mod, mod-lt, mod-eq-of-lt, mod-self, mul-suc, suc-mul, sub-zero}
 use native.Mathlib.Decide.{decLt}
 use native.Mathlib.Numerals.{add-one}
 use native.Mathlib.Omega.{arith}
@@ -17,8 +17,9 @@ use Rattle.model.specs.WellFormed.{TaskRule, ModuleRule}
 use Rattle.model.specs.Limits.{maxHorizon}
 use Rattle.model.specs.Run.{State, at, modeAt, modeOf, Inside, Next, on, again, switched, releases, gainOf, gain}
 use Rattle.model.specs.Demand.{value, listedDemand}
-use Rattle.model.proofs.Lists.{all-mem, maxBelow-le}
-use Rattle.model.proofs.Runs.{best-next, rule-at, switch-rule, next-inside}
+use Rattle.model.proofs.Lists.{maxBelow-le}
+use Rattle.model.proofs.Runs.{best-next, rule-at, task-rule, next-inside}
+use Rattle.model.proofs.Splitting.{Unsplit, end-unsplit, switch-unsplit}
 
 -- Sums.
 
@@ -43,9 +44,6 @@ turn d T pos = pick (mod-lt d pos) (decLt (suc (d % T)) T)
     pick : d % T < T → Dec (suc (d % T) < T) → Turn d T
     pick l (yes h) = goes (rw (add-one d, suc-mod) (mod-eq-of-lt h))
     pick l (no h) = let e : suc (d % T) ≡ T = omega arith in ends (rw (add-one d, suc-mod, e) (mod-self T)) e
-
-multiple : (T p n : ℕ) → p % T ≡ 0 → n % p ≡ 0 → n % T ≡ 0
-multiple T p n h e = mod-eq-zero-of-dvd T (dvd-trans T (dvd-of-mod-eq-zero T h) (dvd-of-mod-eq-zero p e))
 
 -- One task.
 
@@ -82,14 +80,16 @@ module _ {period : ℕ} (k : Task) (h : TaskRule period k) (s : State) (L : ℕ)
       pick true false e = omega arith
       pick true true e = omega (arith, leb-true)
 
-  -- in the last tick of its period an instance has one tick left, or it is released there and takes no longer
-  task-last : (s .time + 1) % k .period ≡ 0 → gained + L ≤ suc L - busy k (s .time)
-  task-last z = pick (turn (s .time) (k .period) (omega arith)) (decLt (k .offset) (phase k (s .time)))
+  -- where no instance is split one tick later, one released before has at most one tick left, and one released now takes no longer
+  task-last : Unsplit k (s .time + 1) → gained + L ≤ suc L - busy k (s .time)
+  task-last z = pick (turn (s .time) (k .period) (omega arith)) (decLt (k .offset) (phase k (s .time))) (decLt (phase k (s .time)) (k .offset))
     where
-      pick : Turn (s .time) (k .period) → Dec (k .offset < phase k (s .time)) → gained + L ≤ suc L - busy k (s .time)
-      pick (goes e) l = absurd (omega arith)
-      pick (ends n e) (yes l) = omega (arith, busy-left k (s .time) l, gained-none (omega arith))
-      pick (ends n e) (no l) = omega (arith, busy-none k (s .time) (omega arith), gained-most)
+      pick : Turn (s .time) (k .period) → Dec (k .offset < phase k (s .time)) → Dec (phase k (s .time) < k .offset) → gained + L ≤ suc L - busy k (s .time)
+      pick r (no l) (yes u) = omega (arith, busy-none k (s .time) (omega arith), gained-none (omega arith))
+      pick (goes e) (yes l) u = omega (arith, z (omega arith), busy-left k (s .time) l, gained-none (omega arith))
+      pick (goes e) (no l) (no u) = omega (arith, z (omega arith), busy-none k (s .time) (omega arith), gained-most)
+      pick (ends n e) (yes l) u = omega (arith, busy-left k (s .time) l, gained-none (omega arith))
+      pick (ends n e) (no l) (no u) = omega (arith, busy-none k (s .time) (omega arith), gained-most)
 
   -- what the task gains in a tick, and the ticks then free of instances released before, are within the ticks that were free of them
   task-step : gained + (L - busy k (s .time + 1)) ≤ suc L - busy k (s .time)
@@ -97,7 +97,7 @@ module _ {period : ℕ} (k : Task) (h : TaskRule period k) (s : State) (L : ℕ)
     where
       pick : Turn (s .time) (k .period) → Dec (phase k (s .time) < k .offset) → Dec (k .offset < phase k (s .time))
           → gained + (L - busy k (s .time + 1)) ≤ suc L - busy k (s .time)
-      pick (ends z e) l u = omega (arith, task-last z)
+      pick (ends z e) l u = omega (arith, task-last (λ o. absurd (omega arith)))
       pick (goes e) (yes l) u = omega (arith, busy-none k (s .time) (omega arith), gained-none (omega arith))
       pick (goes e) (no l) (yes u) = omega (arith, busy-left k (s .time) u, busy-left k (s .time + 1) (omega arith), gained-none (omega arith))
       pick (goes e) (no l) (no u) = omega (arith, busy-none k (s .time) (omega arith), busy-left k (s .time + 1) (omega arith), gained-most)
@@ -117,30 +117,25 @@ unfolding Within free
 within-most m s L v h = omega (arith, sumOf-within (λ k. L - busy k (s .time)) (λ k. 0) (λ k. L) (modeOf m s .tasks) (λ k i. omega arith), sumOf-constant L (modeOf m s .tasks))
 
 module _ (m : Module) (ok : ModuleRule m) where
-  rule-of : (s : State) (k : Task) → List·Memᴰ k (modeOf m s .tasks) → TaskRule (modeOf m s .period) k
-  rule-of s k i = all-mem (TaskRule (modeOf m s .period)) k (modeOf m s .tasks) (rule-at m ok (s .mode) .tasks) i
-
   -- a tick that stays in the mode
   stay : (s : State) (L v : ℕ) → Within m (at (s .mode) (s .time + 1)) L v → Within m s (suc L) (gain m s 0 (suc L) + v)
   unfolding Within free gain
   stay s L v h =
-      let step = sumOf-within (gainOf s 0 (suc L)) (λ k. L - busy k (s .time + 1)) (λ k. suc L - busy k (s .time)) (modeOf m s .tasks) (λ k i. task-step k (rule-of s k i) s L) in
+      let step = sumOf-within (gainOf s 0 (suc L)) (λ k. L - busy k (s .time + 1)) (λ k. suc L - busy k (s .time)) (modeOf m s .tasks) (λ k i. task-step k (task-rule m ok (s .mode) k i) s L) in
       omega (arith, step, mul-suc (length (modeOf m s .tasks)) L, rule-at m ok (s .mode) .count)
 
-  -- a tick after which the mode begins again or is left: its mode time then ends a period p, a multiple of each task's period
-  leave : (s : State) (L p v : ℕ) → (s .time + 1) % p ≡ 0 → ((k : Task) → List·Memᴰ k (modeOf m s .tasks) → p % k .period ≡ 0)
+  -- a tick after which the mode begins again or is left: its mode time then splits no instance
+  leave : (s : State) (L v : ℕ) → ((k : Task) → List·Memᴰ k (modeOf m s .tasks) → Unsplit k (s .time + 1))
       → v ≤ 16 * L → Within m s (suc L) (gain m s 0 (suc L) + v)
   unfolding Within free gain
-  leave s L p v e d h =
-      let last = sumOf-within (gainOf s 0 (suc L)) (λ k. L) (λ k. suc L - busy k (s .time)) (modeOf m s .tasks) (λ k i. task-last k (rule-of s k i) s L (multiple (k .period) p (s .time + 1) (d k i) e)) in
+  leave s L v d h =
+      let last = sumOf-within (gainOf s 0 (suc L)) (λ k. L) (λ k. suc L - busy k (s .time)) (modeOf m s .tasks) (λ k i. task-last k (task-rule m ok (s .mode) k i) s L (d k i)) in
       omega (arith, last, sumOf-constant L (modeOf m s .tasks), mul-suc (length (modeOf m s .tasks)) L, rule-at m ok (s .mode) .count)
 
   within-step : (s t : State) (L v : ℕ) → Next m s t → Within m t L v → Within m s (suc L) (gain m s 0 (suc L) + v)
   within-step s t L v (on l e) h = stay s L v (rw e at h)
-  within-step s t L v (again l e) h = leave s L (modeOf m s .period) v (rw l (mod-self _)) (λ k i. rule-of s k i .divides) (within-most m t L v h)
-  within-step s t L v (switched w j l e) h =
-      let r = switch-rule m ok (s .mode) w j in
-      leave s L (w .period) v l (λ k i. all-mem _ k (modeOf m s .tasks) (r .multiple) i) (within-most m t L v h)
+  within-step s t L v (again l e) h = leave s L v (λ k i. rw l (end-unsplit m ok (s .mode) k i)) (within-most m t L v h)
+  within-step s t L v (switched w j l e) h = leave s L v (λ k i. switch-unsplit m ok (s .mode) k i w j (s .time + 1) l) (within-most m t L v h)
 
   -- The largest demand.
 

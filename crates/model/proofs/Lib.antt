@@ -9,6 +9,7 @@ pub mod Division
 pub mod ModeDemands
 pub mod Verdicts
 pub mod Tapes
+pub mod Splitting
 pub mod Bounds
 pub mod Summing
 pub mod Emptied

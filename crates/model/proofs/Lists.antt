@@ -1,14 +1,14 @@
 -- Laws of two tests, of largest values, of sums, and of what holds of each element of a list. Assumes nothing.
 use mathlib.Core.Path.{_≡_, refl, sym, _∙_, ap₂}
 use mathlib.Core.Logic.{_⊎_, inl, inr}
-use mathlib.Core.Bool.{Bool, true, false, _||_}
+use mathlib.Core.Bool.{Bool, true, false, _||_, false≢true}
 use mathlib.Core.List.{List, [], _∷_, map, List·Memᴰ, List·Memᴰ·head, List·Memᴰ·tail, List·Memᴰ·not-nil}
 use Prim.Native.Nat.{ℕ, zero, suc, _+_, _≤_, _<_, max}
 use native.Mathlib.Nat.{add-zero, suc-add, add-suc, le-max-left, le-max-right, le-antisymm, le-trans, le-of-suc-le-suc}
-use native.Mathlib.Decide.{decLe, ℕ-discrete}
+use native.Mathlib.Decide.{decLe, decLt, ℕ-discrete}
 use native.Mathlib.Omega.{arith}
 use lib.ListN.{length, getD}
-use Rattle.model.specs.Lists.{sumOf, maxOf, maxBelow, ticks, All, AllFrom, Pairwise, SumIs, IsLargest}
+use Rattle.model.specs.Lists.{sumOf, maxOf, maxBelow, anyBelow, ticks, All, AllFrom, Pairwise, SumIs, IsLargest}
 
 -- Either of two tests.
 
@@ -22,6 +22,24 @@ or-left b c e = rw e
 pub or-right : (b c : Bool) → c ≡ true → b || c ≡ true
 or-right true c e = refl
 or-right false c e = e
+
+-- Some number below n.
+
+pub anyBelow-some : (q : ℕ → Bool) (n : ℕ) → anyBelow q n ≡ true → (j : ℕ) × (j < n) × (q j ≡ true)
+anyBelow-some q zero h = absurd (false≢true h)
+anyBelow-some q (suc n) h = pick (or-either (q n) (anyBelow q n) h) (anyBelow-some q n)
+  where
+    pick : (q n ≡ true) ⊎ (anyBelow q n ≡ true) → (anyBelow q n ≡ true → (j : ℕ) × (j < n) × (q j ≡ true)) → (j : ℕ) × (j < suc n) × (q j ≡ true)
+    pick (inl e) below = (n, omega arith, e)
+    pick (inr e) below = let r = below e in (r .0, omega arith, r .2)
+
+pub some-anyBelow : (q : ℕ → Bool) (n j : ℕ) → j < n → q j ≡ true → anyBelow q n ≡ true
+some-anyBelow q zero j h e = absurd (omega arith)
+some-anyBelow q (suc n) j h e = pick (decLt j n) (λ l. some-anyBelow q n j l e)
+  where
+    pick : Dec (j < n) → (j < n → anyBelow q n ≡ true) → anyBelow q (suc n) ≡ true
+    pick (yes l) below = or-right (q n) _ (below l)
+    pick (no l) below = let last : n ≡ j = omega arith in or-left (q n) _ (rw last e)
 
 -- The largest of what is attained.
 

@@ -14,9 +14,9 @@ use Rattle.model.specs.Lists.{when, anyBelow}
 use Rattle.model.specs.Sheet.{Switch, Module, named}
 use Rattle.model.specs.Run.{idle, modeAt, Reached, mode-0, target-of}
 use Rattle.model.specs.Demand.{reachedIn, reached}
-use Rattle.model.proofs.Lists.{or-either, or-left, or-right}
+use Rattle.model.proofs.Lists.{or-either, or-left, or-right, anyBelow-some, some-anyBelow}
 
--- Some switch, some number.
+-- Some switch.
 
 -- a target that is named has a switch in the list ..
 pub named-switch : (t : ℕ) (ws : List Switch) → named t ws ≡ true → (w : Switch) × List·Memᴰ w ws × (w .target ≡ t)
@@ -32,22 +32,6 @@ pub switch-named : (w : Switch) (ws : List Switch) → List·Memᴰ w ws → nam
 switch-named w [] h = absurd (List·Memᴰ·not-nil h)
 switch-named w (v ∷ ws) (List·Memᴰ·head e) = or-left _ _ (eq-eqb _ _ (ap (λ (u : Switch). u .target) e))
 switch-named w (v ∷ ws) (List·Memᴰ·tail h) = or-right (eqb (w .target) (v .target)) _ (switch-named w ws h)
-
-anyBelow-some : (q : ℕ → Bool) (n : ℕ) → anyBelow q n ≡ true → (j : ℕ) × (j < n) × (q j ≡ true)
-anyBelow-some q zero h = absurd (false≢true h)
-anyBelow-some q (suc n) h = pick (or-either (q n) (anyBelow q n) h) (anyBelow-some q n)
-  where
-    pick : (q n ≡ true) ⊎ (anyBelow q n ≡ true) → (anyBelow q n ≡ true → (j : ℕ) × (j < n) × (q j ≡ true)) → (j : ℕ) × (j < suc n) × (q j ≡ true)
-    pick (inl e) below = (n, omega arith, e)
-    pick (inr e) below = let r = below e in (r .0, omega arith, r .2)
-
-pub some-anyBelow : (q : ℕ → Bool) (n j : ℕ) → j < n → q j ≡ true → anyBelow q n ≡ true
-some-anyBelow q zero j h e = absurd (omega arith)
-some-anyBelow q (suc n) j h e = pick (decLt j n) (λ l. some-anyBelow q n j l e)
-  where
-    pick : Dec (j < n) → (j < n → anyBelow q n ≡ true) → anyBelow q (suc n) ≡ true
-    pick (yes l) below = or-right (q n) _ (below l)
-    pick (no l) below = let last : n ≡ j = omega arith in or-left (q n) _ (rw last e)
 
 -- How many numbers below n q holds of.
 

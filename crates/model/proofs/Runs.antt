@@ -11,8 +11,8 @@ use lib.Dec.{ltb, eqb}
 use lib.ListN.{length, List·getD-eq-default}
 use borrow.Author.Tests.{lt-ltb, eq-eqb, ltb-true, eqb-true}
 use Rattle.model.specs.Lists.{maxOf}
-use Rattle.model.specs.Sheet.{Switch, Module}
-use Rattle.model.specs.WellFormed.{SwitchRule, ModeRule, ModuleRule}
+use Rattle.model.specs.Sheet.{Task, Switch, Module}
+use Rattle.model.specs.WellFormed.{TaskRule, SwitchRule, ModeRule, ModuleRule}
 use Rattle.model.specs.Run.{State, at, first, idle, modeAt, modeOf, Inside, Listed, Next, on, again, switched, Run, later, IsRun}
 use Rattle.model.specs.Demand.{consIf, targets, nexts}
 use Rattle.model.proofs.Lists.{maxOf-reached, all-mem, allFrom-at}
@@ -129,6 +129,9 @@ module _ (m : Module) (ok : ModuleRule m) where
 
   pub period-positive : (k : ℕ) → 1 ≤ modeAt m k .period
   period-positive k = rule-at k .least
+
+  pub task-rule : (k : ℕ) (t : Task) → List·Memᴰ t (modeAt m k .tasks) → TaskRule (modeAt m k .period) t
+  task-rule k t = all-mem (TaskRule (modeAt m k .period)) t (modeAt m k .tasks) (rule-at k .tasks)
 
   pub switch-rule : (k : ℕ) (w : Switch) → List·Memᴰ w (modeAt m k .switches) → SwitchRule (length (m .modes)) k (modeAt m k) w
   switch-rule k w = all-mem (SwitchRule (length (m .modes)) k (modeAt m k)) w (modeAt m k .switches) (rule-at k .switches)

@@ -1,4 +1,4 @@
--- The sheet's values (document 01, 'The sheet'). Records, so that a later field joins its record. Assumes nothing.
+-- The sheet's values (document 01, 'The sheet'; document 02, k). Records, so that a later field joins its record. Assumes nothing.
 use mathlib.Core.Bool.{Bool, false, _||_}
 use mathlib.Core.List.{List, [], _∷_}
 use Prim.Native.Nat.{ℕ}
@@ -12,7 +12,12 @@ pub record Task : Type 0 where
   pub LET : ℕ
   pub period : ℕ
 
+-- The two kinds of switch, which runs do not tell apart: SW where task periods end, SX at idle instants (document 02, k).
+pub data Kind : Type 0 where
+  SW SX : Kind
+
 pub record Switch : Type 0 where
+  pub kind : Kind
   pub target : ℕ
   pub period : ℕ
 

@@ -1,15 +1,15 @@
 -- What stands in the bytes of an accepted sheet at the places of its modules, modes, tasks and switches. Assumes nothing.
 use mathlib.Core.Path.{_≡_, refl, sym, _∙_, ap}
 use mathlib.Core.List.{List, [], _∷_, _++_, map, append-nil, append-assoc}
-use Prim.Native.Nat.{ℕ, zero, suc, _+_, _*_, _≤_, _<_}
+use Prim.Native.Nat.{ℕ, zero, suc, _+_, _*_, _/_, _≤_, _<_}
 use native.Mathlib.Nat.{add-zero, add-assoc, le-of-suc-le-suc}
 use native.Mathlib.Omega.{arith}
 use lib.ListN.{length, getD, take, drop, length-append, length-drop}
 use lib.Seq.{drop-length, length-take-le, drop-cons, drop-drop, drop-at, getD-drop}
 use Rattle.model.specs.Lists.{sumOf}
-use Rattle.model.specs.Sheet.{Task, Switch, Mode, Module, Sheet, moduleAt}
+use Rattle.model.specs.Sheet.{Task, Kind, SW, SX, Switch, Mode, Module, Sheet, moduleAt}
 use Rattle.model.specs.Run.{modeAt, idle}
-use Rattle.format.specs.Record.{Mark, HZ, ML, MD, TK, SW, EN, Record, hz, ml, md, tk, sw, en, markOf, size, recordAt}
+use Rattle.format.specs.Record.{Mark, HZ, ML, MD, TK, switch, EN, Record, hz, ml, md, tk, sw, en, markOf, size, code, recordAt}
 use Rattle.format.specs.Encoding.{joined, modeRecords, moduleRecords, recordsBeforeEnd, records, recordBytes, encode}
 use Rattle.format.specs.Judgement.{sheetIn, Accepted}
 use Rattle.format.specs.Refusal.{AreBytes}
@@ -126,7 +126,11 @@ rest-length s k j =
     let modules : List ℕ = joined moduleLines (drop (suc k) (s .modules)) in
     omega (arith, length-append modes (modules ++ endLine s), length-append modules (endLine s), length-recordBytes (en (length (recordsBeforeEnd s))))
 
--- The first byte: T of TK, S of SW, and of MD, ML and EN one before both.
+-- The first byte: T of TK, S of SW and of SX, and of MD, ML and EN one before both.
+
+switch-letter : (k : Kind) → code (switch k) / 256 ≡ 83
+switch-letter SW = refl
+switch-letter SX = refl
 
 modules-first : (ms : List Module) (s : Sheet) → getD (joined moduleLines ms ++ endLine s) 0 0 < 80
 unfolding moduleRecords recordBytes
@@ -141,7 +145,7 @@ rest-first (o ∷ os) ms s = omega arith
 switches-first : (ws : List Switch) (os : List Mode) (ms : List Module) (s : Sheet) → getD (joined switchLine ws ++ (joined modeLines os ++ (joined moduleLines ms ++ endLine s))) 0 0 < 84
 unfolding recordBytes
 switches-first [] os ms s = let h : _ < 80 = rest-first os ms s in omega arith
-switches-first (w ∷ ws) os ms s = omega arith
+switches-first (w ∷ ws) os ms s = omega (arith, switch-letter (w .kind))
 
 -- Reading at a place.
 
@@ -150,7 +154,7 @@ recordAt-drop HZ bs p = simp (getD-drop, add-assoc)
 recordAt-drop ML bs p = simp (getD-drop, add-assoc)
 recordAt-drop MD bs p = simp (getD-drop, add-assoc)
 recordAt-drop TK bs p = simp (getD-drop, add-assoc)
-recordAt-drop SW bs p = simp (getD-drop, add-assoc)
+recordAt-drop (switch k) bs p = simp (getD-drop, add-assoc)
 recordAt-drop EN bs p = simp (getD-drop, add-assoc)
 
 record-there : (bs : List ℕ) (p : ℕ) (r : Record) (more : List ℕ) → drop p bs ≡ recordBytes r ++ more → recordAt (markOf r) bs p ≡ r
@@ -272,7 +276,7 @@ module _ (bs : List ℕ) (accepted : Accepted bs) (bytes : AreBytes bs) where
           )
 
       pub switch-record : (i : ℕ) (d : Switch) → i < length (modeOf bs k j .switches)
-          → recordAt SW bs (modePlace (sheetIn bs) k j + 4 + 10 * length (modeOf bs k j .tasks) + 6 * i) ≡ sw (getD (modeOf bs k j .switches) i d)
+          → recordAt (switch (getD (modeOf bs k j .switches) i d .kind)) bs (modePlace (sheetIn bs) k j + 4 + 10 * length (modeOf bs k j .tasks) + 6 * i) ≡ sw (getD (modeOf bs k j .switches) i d)
       switch-record i d l =
           let o : Mode = modeOf bs k j in
           record-there bs (modePlace (sheetIn bs) k j + 4 + 10 * length (o .tasks) + 6 * i) (sw (getD (o .switches) i d)) _
@@ -282,8 +286,8 @@ module _ (bs : List ℕ) (accepted : Accepted bs) (bytes : AreBytes bs) where
       unfolding recordBytes
       switch-first i l =
           let o : Mode = modeOf bs k j in
-          let d : Switch = record { target = 0; period = 0 } in
-          first-there bs (modePlace (sheetIn bs) k j + 4 + 10 * length (o .tasks) + 6 * i) _ (from-switch i (omega arith)) ∙ rw (drop-cons (o .switches) i d l)
+          let d : Switch = record { kind = SW; target = 0; period = 0 } in
+          first-there bs (modePlace (sheetIn bs) k j + 4 + 10 * length (o .tasks) + 6 * i) _ (from-switch i (omega arith)) ∙ rw (drop-cons (o .switches) i d l) (switch-letter (getD (o .switches) i d .kind))
 
       pub switches-end : getD bs (modePlace (sheetIn bs) k j + 4 + 10 * length (modeOf bs k j .tasks) + 6 * length (modeOf bs k j .switches)) 0 < 80
       switches-end =

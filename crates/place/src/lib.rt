@@ -71,7 +71,7 @@ pub fn switches_from(sheet: &[u8], p: usize) -> usize
     p + 4 + 10 * tasks_at(sheet, p)
 }
 
-/// How many switches the mode at p has: no other record's mark begins with S.
+/// How many switches of both kinds the mode at p has: no other record's mark begins with S.
 pub fn switches_at(sheet: &[u8], p: usize) -> usize
     requires { ⌜ Accepted (now sheet) ⌝ }
     requires { ⌜ SomeMode (sheetIn (now sheet)) p ⌝ }

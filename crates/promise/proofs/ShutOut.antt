@@ -18,7 +18,7 @@ use Rattle.model.specs.Demand.{nexts, value}
 use Rattle.model.specs.Verdict.{Exact, ExactSum, ExactIs, exactSum, exact}
 use Rattle.model.proofs.Verdicts.{exact-is, exact-sum-only}
 use Rattle.format.specs.Record.{markCoded}
-use Rattle.format.specs.Rules.{ordered, counted, taskRuled, switchRuled, ruled}
+use Rattle.format.specs.Rules.{ordered, counted, taskRuled, kindRuled, switchRuled, ruled}
 use Rattle.format.specs.Judgement.{gather, tested, judgeFrom, judgement, sheetIn, Accepted}
 use Rattle.format.proofs.RoundTrip.{accepted-wellFormed}
 use Rattle.query.specs.Memory.{tapesIn}
@@ -33,18 +33,18 @@ abbrev A : Sheet
 A = sheetIn (sheetA 8)
 
 accepted-A : Accepted (sheetA 8)
-unfolding sheetA markCoded ordered counted taskRuled switchRuled ruled gather tested judgeFrom judgement
+unfolding sheetA markCoded ordered counted taskRuled kindRuled switchRuled ruled gather tested judgeFrom judgement
 accepted-A = refl
 
 wellFormed-A : WellFormed A
 wellFormed-A = accepted-wellFormed (sheetA 8) A accepted-A
 
 horizon-A : A .horizon ≡ 8
-unfolding sheetA markCoded ordered counted taskRuled switchRuled ruled gather tested judgeFrom judgement
+unfolding sheetA markCoded ordered counted taskRuled kindRuled switchRuled ruled gather tested judgeFrom judgement
 horizon-A = refl
 
 exact-A : exact A ≡ Exact.over 4 7 4
-unfolding sheetA markCoded ordered counted taskRuled switchRuled ruled gather tested judgeFrom judgement gainOf gain nexts value exactSum exact
+unfolding sheetA markCoded ordered counted taskRuled kindRuled switchRuled ruled gather tested judgeFrom judgement gainOf gain nexts value exactSum exact
 exact-A = refl
 
 abbrev all-to : (ℕ → Bool) → ℕ → Bool
@@ -62,7 +62,7 @@ at-most p (suc n) b h e =
     pick last (no g) below = let z : b ≡ suc n = omega arith in rw z last
 
 from-0-computed : all-to (λ n. leb (exactSum A 0 n) n) 8 ≡ true
-unfolding sheetA markCoded ordered counted taskRuled switchRuled ruled gather tested judgeFrom judgement gainOf gain nexts value exactSum
+unfolding sheetA markCoded ordered counted taskRuled kindRuled switchRuled ruled gather tested judgeFrom judgement gainOf gain nexts value exactSum
 from-0-computed = refl
 
 from-0-A : (b : ℕ) → b ≤ 8 → exactSum A 0 b ≤ b
@@ -78,7 +78,7 @@ pub clear-to-everything : ((bytes : List ℕ) → Accepted bytes → ClearPromis
 clear-to-everything clear = not-clear-A (clear (sheetA 8) accepted-A)
 
 first-module : Nth (A .modules) 0 (moduleAt A 0)
-unfolding sheetA markCoded ordered counted taskRuled switchRuled ruled gather tested judgeFrom judgement
+unfolding sheetA markCoded ordered counted taskRuled kindRuled switchRuled ruled gather tested judgeFrom judgement
 first-module = refl
 
 -- No tape written: the tapes are then whatever the memory came with.

@@ -9,7 +9,7 @@ use native.Mathlib.Omega.{arith}
 use lib.ListN.{length, getD, set, replicate, length-set, getD-replicate, List·getD-eq-default}
 use lib.Seq.{getD-set-same, getD-set-other}
 use Rattle.model.specs.Limits.{maxModes}
-use Rattle.model.proofs.Rounds.{some-anyBelow}
+use Rattle.model.proofs.Lists.{some-anyBelow}
 use Rattle.reach.specs.Names.{listedBy, inRound, Names}
 
 -- The search.

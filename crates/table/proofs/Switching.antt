@@ -9,7 +9,7 @@ use lib.Dec.{eqb, ltb}
 use lib.ListN.{length, getD, drop, List·getD-eq-default, drop-of-length-le}
 use lib.Seq.{drop-cons}
 use borrow.Author.Tests.{eq-eqb, ne-eqb, lt-ltb}
-use Rattle.model.specs.Sheet.{Switch, moduleAt, named}
+use Rattle.model.specs.Sheet.{SW, Switch, moduleAt, named}
 use Rattle.model.specs.Run.{modeAt}
 use Rattle.format.specs.Record.{fieldsOf, fieldAt}
 use Rattle.format.specs.Judgement.{sheetIn, Accepted}
@@ -24,7 +24,7 @@ use Rattle.table.specs.Rows.{periodTo, indexTo}
 
 -- a switch for numbers that none has
 abbrev pub none : Switch
-none = record { target = 0; period = 0 }
+none = record { kind = SW; target = 0; period = 0 }
 
 pub named-index : (t : ℕ) (ws : List Switch) → named t ws ≡ ltb (indexTo t ws) (length ws)
 named-index t [] = refl

@@ -1,5 +1,6 @@
 //! The comparison of sheets, each made from a seed.
 
+use crate::answer::Answer;
 use crate::archive;
 use crate::arguments::calls;
 use crate::difference::{Difference, Origin};
@@ -9,7 +10,7 @@ use crate::query::Query;
 use crate::tally::Tally;
 use crate::wanted::{Wanted, Way};
 use second::generate::{any_records, damaged, sheet, Damage, Rng, Shape};
-use second::{brute, encode, Sheet};
+use second::{brute, encode, Exact, Sheet};
 
 /// Whether the two sides are alike so far.
 pub type Alike = Result<(), Box<Difference>>;
@@ -43,12 +44,23 @@ impl Comparison {
             return differ(fault, format!("{second}, and the memory's other cells stay"));
         }
         self.tally.count(query, &second);
-        if let (Query::StateDemand { module, mode, .. }, Ok(sheet), 0) =
-            (*query, wanted.sheet(), second.number())
-        {
-            self.tally.count_state(sheet, module, mode);
-        }
+        self.count_about(bytes, wanted, query, &second);
         Ok(())
+    }
+
+    /// Counts what an answer is about: a state, tapes, or the record of a refusal.
+    fn count_about(&mut self, bytes: &[u8], wanted: &Wanted<'_>, query: &Query, answer: &Answer) {
+        let tally = &mut self.tally;
+        match (query, wanted.sheet(), answer) {
+            (Query::StateDemand { module, mode, .. }, Ok(sheet), Answer::Demand(_)) => {
+                tally.count_state(sheet, *module, *mode);
+            }
+            (_, Ok(sheet), Answer::Exact(Exact::Over { tapes, .. })) => {
+                tally.count_tapes(sheet, tapes);
+            }
+            (Query::Judge, Err(refusal), _) => tally.count_refused(bytes, &refusal),
+            _ => {}
+        }
     }
 
     /// Makes calls of every kind, with arguments about those of the sheet, or of the one that it

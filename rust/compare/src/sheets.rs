@@ -3,7 +3,7 @@
 //! Three are those of a pen display: pen, touch, panel, light, storage, radio, battery and keys,
 //! each with a mode without tasks in which it is suspended. The others are made to be hard.
 
-use second::{Mode, Module, Sheet, Switch, Task};
+use second::{Kind, Mode, Module, Sheet, Switch, Task};
 use std::iter::once;
 use std::path::{Path, PathBuf};
 
@@ -23,12 +23,12 @@ pub fn all() -> [(&'static str, Sheet); 5] {
     ]
 }
 
-/// A mode from its period, its tasks (offset, cost, LET, period) and its switches (target,
+/// A mode from its period, its tasks (offset, cost, LET, period) and its SW switches (target,
 /// period).
 pub fn mode(period: u16, tasks: &[[u16; 4]], switches: &[[u16; 2]]) -> Mode {
     let task =
         |&[offset, cost, let_ticks, period]: &[u16; 4]| Task { offset, cost, let_ticks, period };
-    let switch = |&[target, period]: &[u16; 2]| Switch { target, period };
+    let switch = |&[target, period]: &[u16; 2]| Switch { kind: Kind::Sw, target, period };
     Mode {
         period,
         tasks: tasks.iter().map(task).collect(),

@@ -2,8 +2,8 @@
 
 use crate::answer::Answer;
 use crate::query::{Query, KINDS};
-use second::sheet::MOST_MODES;
-use second::{reached, Exact, Module, Quick, Sheet};
+use second::sheet::{Mark, MOST_MODES};
+use second::{reached, Exact, Kind, Mode, Module, Quick, Refusal, Sheet};
 use std::fmt;
 
 /// The counts of a comparison.
@@ -28,6 +28,16 @@ pub struct Tally {
     pub farthest: [u64; MOST_MODES],
     /// State demands answered about a mode that is not reached.
     pub unreached_states: u64,
+    /// Accepted sheets with an SX.
+    pub sx: u64,
+    /// Accepted sheets with an SX that could not be an SW.
+    pub sx_alone: u64,
+    /// Exact tests that said over with a tape that leaves a mode where no SW could.
+    pub left_by_sx: u64,
+    /// Byte lists refused at an SX, by number.
+    pub refused_at_sx: [u64; 11],
+    /// Byte lists refused for the order at a TK behind an SX.
+    pub task_behind_sx: u64,
 }
 
 impl Tally {
@@ -36,6 +46,26 @@ impl Tally {
         let all_reached = |module: &Module| reached(module).into_iter().all(|mode| mode);
         self.unreached += u64::from(!sheet.modules.iter().all(all_reached));
         self.farthest[sheet.modules.iter().map(farthest).max().unwrap_or(0)] += 1;
+        self.sx += u64::from(sheet.switches().any(|switch| switch.kind == Kind::Sx));
+        self.sx_alone += u64::from(sheet.modes().any(has_sx_alone));
+    }
+
+    /// Counts the tapes of an exact test that said over of the sheet.
+    pub fn count_tapes(&mut self, sheet: &Sheet, tapes: &[Vec<u8>]) {
+        let mut taped = sheet.modules.iter().zip(tapes);
+        self.left_by_sx += u64::from(taped.any(|(module, tape)| leaves_by_sx(module, tape)));
+    }
+
+    /// Counts a refusal of these bytes by the judge.
+    pub fn count_refused(&mut self, bytes: &[u8], refusal: &Refusal) {
+        let Refusal { number, place } = *refusal;
+        let stands = |mark: Mark, at: usize| bytes[at..].starts_with(&mark.bytes());
+        if stands(Mark::Sx, place) {
+            self.refused_at_sx[usize::from(number)] += 1;
+        }
+        let before = place.checked_sub(Mark::Sx.record_len());
+        let behind_sx = before.is_some_and(|at| stands(Mark::Sx, at));
+        self.task_behind_sx += u64::from(number == 3 && behind_sx && stands(Mark::Tk, place));
     }
 
     /// Counts a state demand that was answered about the sheet.
@@ -58,6 +88,21 @@ impl Tally {
             _ => {}
         }
     }
+}
+
+/// Whether a mode of an accepted sheet has an SX whose period no SW could have.
+fn has_sx_alone(mode: &Mode) -> bool {
+    mode.switches.iter().any(|switch| !mode.task_periods_divide(switch.period))
+}
+
+/// Whether a tape leaves a mode after a stay that is no multiple of all its task periods, as
+/// every stay is that an SW ends. Each stretch of one mode but the last is such a stay.
+fn leaves_by_sx(module: &Module, tape: &[u8]) -> bool {
+    let stretches: Vec<&[u8]> = tape.chunk_by(|mode, next| mode == next).collect();
+    stretches[..stretches.len() - 1].iter().any(|stay| {
+        let mut tasks = module.modes[usize::from(stay[0])].tasks.iter();
+        tasks.any(|task| !stay.len().is_multiple_of(task.period.into()))
+    })
 }
 
 /// How many switches it takes at least to the farthest reached mode.
@@ -96,6 +141,11 @@ impl fmt::Display for Tally {
         writeln!(f, "longest tape: {} ticks", self.longest_tape)?;
         write!(f, "modes that are not reached: on {} sheets, ", self.unreached)?;
         writeln!(f, "{} state demands answered about one", self.unreached_states)?;
-        writeln!(f, "sheets by the switches to the farthest mode: {:?}", self.farthest)
+        writeln!(f, "sheets by the switches to the farthest mode: {:?}", self.farthest)?;
+        write!(f, "SX: on {} sheets, on {} where no SW could be, ", self.sx, self.sx_alone)?;
+        writeln!(f, "{} exact tests over with a mode left there", self.left_by_sx)?;
+        let [_, _, _, order, count, _, value, ..] = self.refused_at_sx;
+        write!(f, "byte lists refused at an SX: {order} by 3, {count} by 4, {value} by 6; ")?;
+        writeln!(f, "by 3 at a TK behind one: {}", self.task_behind_sx)
     }
 }

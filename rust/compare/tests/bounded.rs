@@ -6,11 +6,13 @@ use compare::query::Query;
 use compare::sheets::mode;
 use compare::tally::Tally;
 use compare::wanted::{Wanted, Way};
-use second::generate::{damaged, sheet, Damage, Rng, Shape};
-use second::{encode, judge, Exact, Module, Sheet};
+use second::generate::{damaged, sheet, split, Damage, Rng, Shape};
+use second::{encode, judge, Exact, Kind, Mode, Module, Sheet, Switch};
 use std::ops::Range;
 
 const SHEET_A: &[u8] = include_bytes!("../../../examples/a_two_modules.sheet");
+/// A sheet with an SX that no SW could be: its first multiple is a due tick.
+const LEAVE_BY_SX: &[u8] = include_bytes!("../../../examples/leave_by_sx.sheet");
 
 /// Fails with what differs.
 fn alike(compared: Alike) {
@@ -37,6 +39,7 @@ fn small(seeds: Range<u64>) {
     }
     assert!((2..=6).all(|borrowing| tally.calls[borrowing][10] > 200));
     assert!(unreached_modes(&tally, 1000, 100) && tally.unreached_states > 1000);
+    assert!(tally.sx > 5500 && tally.sx_alone > 3500 && tally.left_by_sx > 200);
 }
 
 /// Whether sheets with modes that are not reached came so often, and chains of each length.
@@ -64,53 +67,126 @@ fn large_and_damaged_sheets() {
     assert!(both_verdicts(&tally, 20));
     assert!(tally.longest_tape > 100);
     assert!(unreached_modes(&tally, 100, 3) && tally.unreached_states > 50);
+    assert!(tally.sx > 170 && tally.sx_alone > 150 && tally.left_by_sx > 15);
+    let [_, _, _, order, count, _, value, ..] = tally.refused_at_sx;
+    assert!(order > 200 && count > 4 && value > 2500 && tally.task_behind_sx > 180);
     // Whatever is asked, a sheet's fault is the refusal.
     assert!(tally.calls.iter().flat_map(|counts| &counts[1..=8]).all(|&count| count > 0));
 }
 
-/// Each of the four counts that can be exceeded, alone.
-#[test]
-fn exceeded_counts() {
+/// The counts of every call on small sheets, 20 damaged in each of these ways.
+fn damaged_in(ways: &[Damage]) -> Tally {
     let mut comparison = Comparison::default();
     let mut rng = Rng::new(1);
-    let kinds = [Damage::NinthModule, Damage::SeventeenthTask, Damage::Task257, Damage::Switch129];
-    for kind in kinds {
+    for &damage in ways {
         for _ in 0..20 {
             let made = sheet(&mut rng, &Shape::small());
-            let bytes = damaged(&mut rng, &made, kind);
+            let bytes = damaged(&mut rng, &made, damage);
             alike(comparison.every_call(&mut rng, &bytes, Way::Table, &made));
         }
     }
-    let refused_4 = |counts: &[u64; 11]| counts[4] == counts.iter().sum();
-    assert!(comparison.tally.calls.iter().all(refused_4));
+    comparison.tally
 }
 
-/// Every single fault of sheet A.
+/// Whether every call was refused by this number.
+fn all_refused(tally: &Tally, number: usize) -> bool {
+    tally.calls.iter().all(|counts| counts[number] == counts.iter().sum())
+}
+
+/// Each of the four counts that can be exceeded, alone. The 129th switch is SX or SW.
+#[test]
+fn exceeded_counts() {
+    let tally = damaged_in(&[
+        Damage::NinthModule,
+        Damage::SeventeenthTask,
+        Damage::Task257,
+        Damage::Switch129,
+    ]);
+    assert!(all_refused(&tally, 4));
+    assert!((5..=15).contains(&tally.refused_at_sx[4]), "{tally}");
+}
+
+/// A target named twice, at least once by SX: the second is an SX on some sheets, an SW on others.
+#[test]
+fn targets_named_twice() {
+    let tally = damaged_in(&[Damage::TargetTwice; 3]);
+    assert!(all_refused(&tally, 6));
+    assert!((15..=45).contains(&tally.refused_at_sx[6]), "{tally}");
+}
+
+/// Every single fault of sheet A, and of a sheet with SX.
 #[test]
 fn single_faults() {
-    let mut comparison = Comparison::default();
-    let made = judge(SHEET_A).unwrap();
-    alike(comparison.every_single_fault(&mut Rng::new(2), &made));
-    let judged = comparison.tally.calls[0];
-    assert!([0, 1, 2, 3, 5, 6, 7, 8].into_iter().all(|number| judged[number] > 0), "{judged:?}");
+    for bytes in [SHEET_A, LEAVE_BY_SX] {
+        let mut comparison = Comparison::default();
+        let made = judge(bytes).unwrap();
+        alike(comparison.every_single_fault(&mut Rng::new(2), &made));
+        let judged = comparison.tally.calls[0];
+        let came = |number: usize| judged[number] > 0;
+        assert!([0, 1, 2, 3, 5, 6, 7, 8].into_iter().all(came), "{judged:?}");
+        let at_sx = comparison.tally.refused_at_sx;
+        assert!(at_sx[1] > 0 && at_sx[3] > 0 && at_sx[6] > 0, "{at_sx:?}");
+    }
 }
 
-/// Every mark and every field of sheet A, at every value of 16 bits.
+/// Every mark and every field of sheet A, and of a sheet with SX, at every value of 16 bits.
 #[test]
 fn every_value() {
-    let mut comparison = Comparison::default();
-    let mut bytes = SHEET_A.to_vec();
-    for place in (0..bytes.len()).step_by(2) {
-        for value in 0..=u16::MAX {
-            bytes[place..place + 2].copy_from_slice(&value.to_le_bytes());
-            alike(comparison.call(&bytes, &Wanted::new(&bytes, Way::Table), &Query::Judge));
+    for sheet in [SHEET_A, LEAVE_BY_SX] {
+        let mut comparison = Comparison::default();
+        let mut bytes = sheet.to_vec();
+        for place in (0..bytes.len()).step_by(2) {
+            for value in 0..=u16::MAX {
+                bytes[place..place + 2].copy_from_slice(&value.to_le_bytes());
+                alike(comparison.call(&bytes, &Wanted::new(&bytes, Way::Table), &Query::Judge));
+            }
+            bytes.copy_from_slice(sheet);
         }
-        bytes.copy_from_slice(SHEET_A);
+        let [accepted, _, unknown_marks, ..] = comparison.tally.calls[0];
+        assert!(accepted > 2000);
+        // Each mark can be any of the seven that are in the list, and no other.
+        assert!(unknown_marks >= split(sheet).len() as u64 * ((1 << 16) - 7));
     }
-    let [accepted, _, unknown_marks, ..] = comparison.tally.calls[0];
-    assert!(accepted > 2000);
-    // Each of the eleven marks can be any of the six that are in the list, and no other.
-    assert!(unknown_marks >= 11 * ((1 << 16) - 6));
+}
+
+/// Every task with cost 1 that a mode of this period may have.
+fn every_task(mode_period: u16) -> Vec<[u16; 4]> {
+    let mut all = Vec::new();
+    for period in (1..=mode_period).filter(|&period| mode_period.is_multiple_of(period)) {
+        for offset in 0..period {
+            all.extend((1..=period - offset).map(|let_ticks| [offset, 1, let_ticks, period]));
+        }
+    }
+    all
+}
+
+/// A sheet with a mode with this period and this task, left by an SX with this period.
+fn with_sx(mode_period: u16, task: [u16; 4], period: u16) -> Vec<u8> {
+    let switches = vec![Switch { kind: Kind::Sx, target: 1, period }];
+    let left = Mode { switches, ..mode(mode_period, &[task], &[]) };
+    let modules = vec![Module { modes: vec![left, mode(1, &[], &[])] }];
+    encode(&Sheet { horizon: 1, modules })
+}
+
+/// Every SX beside every task, with multiples at releases and due ticks, in instances and between.
+#[test]
+fn every_border() {
+    let mut comparisons = [Comparison::default(), Comparison::default()];
+    for mode_period in 1..=24_u16 {
+        for task in every_task(mode_period) {
+            for period in 0..=mode_period + 1 {
+                let comparison = &mut comparisons[usize::from(mode_period.is_multiple_of(period))];
+                let bytes = with_sx(mode_period, task, period);
+                for way in [Way::Literal, Way::Table] {
+                    alike(comparison.call(&bytes, &Wanted::new(&bytes, way), &Query::Judge));
+                }
+            }
+        }
+    }
+    let [not_dividing, dividing] = comparisons.map(|comparison| comparison.tally.calls[0]);
+    assert_eq!(not_dividing[6], not_dividing.iter().sum());
+    assert_eq!(dividing[0] + dividing[6], dividing.iter().sum());
+    assert!(dividing[0] > 7000 && dividing[6] > 7000);
 }
 
 /// The longest sheet, whole and cut at every byte.

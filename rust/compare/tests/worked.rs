@@ -1,7 +1,9 @@
-//! The worked cases of document 01 that are run and not proved, I and J.
+//! The worked cases of document 01 that are run and not proved, I and J, and the sheets of
+//! request k in `examples`.
 
 use compare::comparison::Comparison;
 use compare::sheets::mode;
+use compare::tally::Tally;
 use compare::wanted::Way;
 use second::generate::Rng;
 use second::{encode, Mode, Module, Sheet};
@@ -59,4 +61,25 @@ fn case_j() {
     assert_eq!(refused(&with_task([1, 1, 4, 4])), Some((5, 12)));
     let modes = vec![mode(8, &[[0, 1, 1, 8]], &[[1, 4]]), mode(8, &[], &[])];
     assert_eq!(refused(&sheet(4, vec![modes])), Some((6, 22)));
+}
+
+/// The counts of every call on a sheet of `examples`.
+fn tally_of(bytes: &[u8]) -> Tally {
+    let mut comparison = Comparison::default();
+    let made = second::judge(bytes).unwrap();
+    let compared = comparison.every_call(&mut Rng::new(0), bytes, Way::Literal, &made);
+    assert_eq!(compared, Ok(()));
+    comparison.tally
+}
+
+/// Request k: only by SX is the long mode left within its task period, and only where it is over
+/// does a tape show it.
+#[test]
+fn leaving_a_mode() {
+    let by_sw = tally_of(include_bytes!("../../../examples/leave_by_sw.sheet"));
+    assert_eq!((by_sw.sx, by_sw.sx_alone, by_sw.left_by_sx, by_sw.exact), (0, 0, 0, [0, 1]));
+    let by_sx = tally_of(include_bytes!("../../../examples/leave_by_sx.sheet"));
+    assert_eq!((by_sx.sx, by_sx.sx_alone, by_sx.left_by_sx, by_sx.exact), (1, 1, 0, [1, 0]));
+    let over = tally_of(include_bytes!("../../../examples/leave_by_sx_over.sheet"));
+    assert_eq!((over.sx, over.sx_alone, over.left_by_sx, over.exact), (1, 1, 1, [0, 1]));
 }

@@ -3,7 +3,7 @@
 //! `cargo run --release --example timing [count]`
 
 use second::generate::{sheet, Rng, Shape};
-use second::{encode, judge, table, Exact, Mode, Module, Quick, Sheet, Switch, Task};
+use second::{encode, judge, table, Exact, Kind, Mode, Module, Quick, Sheet, Switch, Task};
 use std::time::{Duration, Instant};
 
 /// The time of one call, and its answer.
@@ -56,12 +56,8 @@ fn time_shape(name: &str, shape: &Shape, count: usize) {
 /// horizon has to be worked up.
 fn hard(one: u16, two: u16, grain: u16) -> Sheet {
     let task = Task { offset: 0, cost: 1, let_ticks: 1, period: grain };
-    let switch = |period| move |target| Switch { target, period };
-    let long = |_| Mode {
-        period: 1024,
-        tasks: vec![task],
-        switches: vec![Switch { target: 1, period: 1024 }],
-    };
+    let switch = |period| move |target| Switch { kind: Kind::Sw, target, period };
+    let long = |_| Mode { period: 1024, tasks: vec![task], switches: vec![switch(1024)(1)] };
     let mut modes = vec![
         Mode { period: 512, tasks: vec![], switches: vec![switch(512)(1)] },
         Mode { period: one, tasks: vec![], switches: (2..8).map(switch(one)).collect() },

@@ -254,7 +254,7 @@ fn record_refusal(before: &[Record], record: &Record) -> Option<u8> {
                 || u64::from(mode[0].fields[0]) % fourth != 0;
             broken.then_some(5)
         }
-        Mark::Sw => switch_broken(module, mode, first, second).then_some(6),
+        Mark::Sw | Mark::Sx => switch_broken(module, mode, record).then_some(6),
         Mark::En => (first != before.len() as u64).then_some(7),
     }
 }
@@ -286,7 +286,7 @@ fn out_of_order(before: &[Record], mark: Mark) -> bool {
         (Mark::Ml, _) => lacking > 0,
         (Mark::Md, _) => lacking == 0,
         (Mark::Tk, Some(last)) => !matches!(last, Mark::Md | Mark::Tk),
-        (Mark::Sw, Some(last)) => matches!(last, Mark::Hz | Mark::Ml | Mark::En),
+        (Mark::Sw | Mark::Sx, Some(last)) => matches!(last, Mark::Hz | Mark::Ml | Mark::En),
         (Mark::En, _) => module.is_empty() || lacking > 0,
     }
 }
@@ -297,18 +297,36 @@ fn too_many(before: &[Record], mark: Mark) -> bool {
     match mark {
         Mark::Ml => seen >= 8,
         Mark::Tk => seen >= 256 || count(since(before, Mark::Md), Mark::Tk) >= 16,
-        Mark::Sw => seen >= 128,
+        Mark::Sw | Mark::Sx => count(before, Mark::Sw) + count(before, Mark::Sx) >= 128,
         _ => false,
     }
 }
 
-/// Whether a switch breaks a rule, given the records of its module and mode.
-fn switch_broken(module: &[Record], mode: &[Record], target: u64, period: u64) -> bool {
-    let itself = count(module, Mark::Md) as u64 - 1;
+/// Whether a switch breaks a rule, given the records of its module and mode. The
+/// mode's MD comes first among these, so a switch period of 0 meets no task.
+fn switch_broken(module: &[Record], mode: &[Record], switch: &Record) -> bool {
+    let [target, period, ..] = switch.fields.map(usize::from);
+    let itself = count(module, Mark::Md) - 1;
+    let mode_period = usize::from(mode[0].fields[0]);
     let fault = |record: &Record| match record.mark {
-        Mark::Md => period == 0 || u64::from(record.fields[0]) % period != 0,
-        Mark::Tk => !period.is_multiple_of(u64::from(record.fields[3])),
-        _ => u64::from(record.fields[0]) == target,
+        Mark::Md => period == 0 || mode_period % period != 0,
+        Mark::Tk if switch.mark == Mark::Sx => cuts_instance(record, period, mode_period),
+        Mark::Tk => !period.is_multiple_of(usize::from(record.fields[3])),
+        _ => usize::from(record.fields[0]) == target,
     };
-    target >= u64::from(module[0].fields[0]) || target == itself || mode.iter().any(fault)
+    target >= usize::from(module[0].fields[0]) || target == itself || mode.iter().any(fault)
+}
+
+/// Whether a multiple of the switch period falls within an instance of the task:
+/// all ticks strictly between a release and its due tick are marked, then every
+/// multiple is looked up. Ticks are mode times here, and no instance is due after
+/// the mode period.
+fn cuts_instance(task: &Record, switch_period: usize, mode_period: usize) -> bool {
+    let [offset, _, let_ticks, period] = task.fields.map(usize::from);
+    let mut within = vec![false; mode_period + 1];
+    for number in 0..mode_period / period {
+        let release = number * period + offset;
+        within[release + 1..release + let_ticks].fill(true);
+    }
+    (1..=mode_period / switch_period).any(|number| within[number * switch_period])
 }

@@ -50,7 +50,7 @@ pub struct Shape {
     pub modules: (usize, usize),
     /// Modes in a module; a chain may need more.
     pub modes: (usize, usize),
-    /// Tasks in a mode; a heavy one has two at least.
+    /// Tasks in a mode; a heavy one has two at least, an idle one one.
     pub tasks: (usize, usize),
     /// Switches in a mode; there are never more than modes it may lead to.
     pub switches: (usize, usize),
@@ -77,7 +77,26 @@ pub struct Shape {
     pub unreached_percent: usize,
 }
 
+/// So many percent of the modes with switches are idle ones, in every shape: their
+/// tasks are put between the multiples of a switch period that need not be a
+/// multiple of any task period. All switches of such a mode are SX, or half of
+/// them; of the other modes' switches a few are.
+const IDLE_PERCENT: usize = 40;
+
 impl Shape {
+    /// All the shapes below, with their names.
+    pub fn all() -> [(&'static str, Shape); 7] {
+        [
+            ("small", Shape::small()),
+            ("small_light", Shape::small_light()),
+            ("medium", Shape::medium()),
+            ("realistic", Shape::realistic()),
+            ("wide", Shape::wide()),
+            ("wide_light", Shape::wide_light()),
+            ("fullest", Shape::fullest()),
+        ]
+    }
+
     /// Sheets small enough for the literal way.
     pub fn small() -> Shape {
         Shape {
@@ -200,6 +219,11 @@ impl Shape {
             unreached_percent: 12,
         }
     }
+
+    /// A switch period that only SX may have is at least this.
+    fn shortest_sx_period(&self) -> u16 {
+        (self.shortest_task_period / 2).max(1)
+    }
 }
 
 /// A well-formed sheet of this shape.
@@ -321,46 +345,128 @@ fn mode(rng: &mut Rng, shape: &Shape, plan: &Plan, own: usize, left: &mut (usize
     let wanted = rng.between(shape.switches.0, shape.switches.1);
     let targets = plan.targets(rng, own, wanted, left.1);
     let heavy = plan.heavy(rng, own);
-    let least = if heavy { 2 } else { 0 };
+    let idle = !targets.is_empty() && rng.chance(IDLE_PERCENT);
+    let least = if heavy { 2 } else { usize::from(idle) };
     let count = rng.between(shape.tasks.0, shape.tasks.1).max(least).min(left.0);
     *left = (left.0 - count, left.1 - targets.len());
-    // With a switch, the task periods divide a grain that divides the period.
-    let long_enough = |d: &u16| *d >= shape.shortest_task_period.min(period);
-    let grains: Vec<u16> = divisors(period).into_iter().filter(long_enough).collect();
-    let grain = if targets.is_empty() { period } else { *rng.pick(&grains) };
-    let tasks = match heavy {
-        true => heavy_tasks(rng, shape, grain, count),
-        false => (0..count).map(|_| task(rng, shape, grain)).collect(),
+    let room = match targets.is_empty() {
+        true => Room { period, grain: period },
+        false => Room::between_switches(rng, shape, period, idle),
     };
-    let fits = |d: &u16| tasks.iter().all(|t: &Task| d.is_multiple_of(t.period)) && long_enough(d);
-    let choices: Vec<u16> = divisors(period).into_iter().filter(fits).collect();
-    let switch = |target| Switch { target: target as u16, period: *rng.pick(&choices) };
-    let switches = targets.into_iter().map(switch).collect();
-    Mode { period, tasks, switches }
+    let tasks = match heavy {
+        true => heavy_tasks(rng, shape, &room, count),
+        false => (0..count).map(|_| task(rng, shape, &room)).collect(),
+    };
+    let sx_percent = if idle { *rng.pick(&[100, 50]) } else { *rng.pick(&[0, 0, 0, 50]) };
+    let mut mode = Mode { period, tasks, switches: Vec::new() };
+    let periods = SwitchPeriods::of(shape, &mode);
+    let switch = |target| periods.switch(rng, target as u16, sx_percent);
+    mode.switches = targets.into_iter().map(switch).collect();
+    mode
+}
+
+/// The switch periods to choose from in a mode.
+struct SwitchPeriods {
+    /// Those that SW may have; SX may have them too.
+    sw: Vec<u16>,
+    /// Those that only SX may have.
+    sx_alone: Vec<u16>,
+}
+
+impl SwitchPeriods {
+    /// Those for a mode, by its period and its tasks. SX may have one if every
+    /// instance ends in the slot it begins in.
+    fn of(shape: &Shape, mode: &Mode) -> SwitchPeriods {
+        let in_one_slot = |grain: u16, task: &Task| {
+            let slot = common_divisor(grain, task.period);
+            task.offset % slot + task.let_ticks <= slot
+        };
+        let for_sw = |grain: &u16| mode.task_periods_divide(*grain);
+        let for_sx = |grain: &u16| mode.tasks.iter().all(|task| in_one_slot(*grain, task));
+        let mut sw = divisors(mode.period, shape.shortest_task_period);
+        sw.retain(for_sw);
+        let mut sx_alone = divisors(mode.period, shape.shortest_sx_period());
+        sx_alone.retain(|grain| !for_sw(grain) && for_sx(grain));
+        SwitchPeriods { sw, sx_alone }
+    }
+
+    /// A switch to this mode, SX in so many percent, and then with a period that
+    /// no SW may have, mostly, where there is one.
+    fn switch(&self, rng: &mut Rng, target: u16, sx_percent: usize) -> Switch {
+        let kind = if rng.chance(sx_percent) { Kind::Sx } else { Kind::Sw };
+        let alone = kind == Kind::Sx && !self.sx_alone.is_empty() && rng.chance(75);
+        let period = *rng.pick(if alone { &self.sx_alone } else { &self.sw });
+        Switch { kind, target, period }
+    }
+}
+
+/// Where tasks have room: their periods divide `period`, and no multiple of
+/// `grain` falls within an instance.
+struct Room {
+    period: u16,
+    grain: u16,
+}
+
+impl Room {
+    /// Room in a mode with this period and with switches: for SW the task periods
+    /// divide the grain as well; with `idle` they need not.
+    fn between_switches(rng: &mut Rng, shape: &Shape, period: u16, idle: bool) -> Room {
+        if idle {
+            let mut grains = divisors(period, shape.shortest_sx_period());
+            // With the period itself SX would allow no more than SW.
+            grains.truncate((grains.len() - 1).max(1));
+            return Room { period, grain: *rng.pick(&grains) };
+        }
+        let grain = *rng.pick(&divisors(period, shape.shortest_task_period));
+        Room { period: grain, grain }
+    }
+
+    /// A task period: mostly one that does not divide the grain, where there is one.
+    fn task_period(&self, rng: &mut Rng, shape: &Shape) -> u16 {
+        let all = divisors(self.period, shape.shortest_task_period);
+        let (dividing, others): (Vec<u16>, Vec<u16>) =
+            all.into_iter().partition(|&period| self.grain.is_multiple_of(period));
+        let other = dividing.is_empty() || !others.is_empty() && rng.chance(75);
+        *rng.pick(if other { &others } else { &dividing })
+    }
 }
 
 /// So many times the same task at full cost: with two, the demand for a length
 /// of its LET is twice that length.
-fn heavy_tasks(rng: &mut Rng, shape: &Shape, grain: u16, count: usize) -> Vec<Task> {
-    let one = task(rng, shape, grain);
+fn heavy_tasks(rng: &mut Rng, shape: &Shape, room: &Room, count: usize) -> Vec<Task> {
+    let one = task(rng, shape, room);
     vec![Task { cost: one.let_ticks, ..one }; count]
 }
 
-/// A task whose period divides the grain.
-fn task(rng: &mut Rng, shape: &Shape, grain: u16) -> Task {
-    let least = shape.shortest_task_period.min(grain);
-    let choices: Vec<u16> = divisors(grain).into_iter().filter(|&d| d >= least).collect();
-    let period = usize::from(*rng.pick(&choices));
-    let let_ticks = rng.between((period * shape.let_percent).div_ceil(100).max(1), period);
-    let offset = rng.between(0, period - let_ticks);
+/// A task in this room. Counted from the start of its task period, each multiple
+/// of the grain falls on one of the common divisor of the two, and on each of
+/// these a multiple falls in some task period. So that divisor parts the task
+/// period into slots, and every instance stays in one, often up to its borders.
+fn task(rng: &mut Rng, shape: &Shape, room: &Room) -> Task {
+    let period = room.task_period(rng, shape);
+    let slot = usize::from(common_divisor(room.grain, period));
+    let let_ticks = rng.between((slot * shape.let_percent).div_ceil(100).max(1), slot);
+    let any = rng.between(0, slot - let_ticks);
+    let after_border = *rng.pick(&[0, slot - let_ticks, any, any]);
+    let offset = slot * rng.below(usize::from(period) / slot) + after_border;
     let cost = rng.between(1, (let_ticks / shape.cost_divisor).max(1));
-    let [offset, cost, let_ticks, period] = [offset, cost, let_ticks, period].map(|v| v as u16);
+    let [offset, cost, let_ticks] = [offset, cost, let_ticks].map(|v| v as u16);
     Task { offset, cost, let_ticks, period }
 }
 
-/// The divisors of a number, ascending.
-fn divisors(number: u16) -> Vec<u16> {
-    (1..=number).filter(|&d| number.is_multiple_of(d)).collect()
+/// The divisors of a number from `least` on, or the number alone if it is less;
+/// ascending.
+fn divisors(number: u16, least: u16) -> Vec<u16> {
+    (least.min(number)..=number).filter(|&d| number.is_multiple_of(d)).collect()
+}
+
+/// The greatest common divisor.
+fn common_divisor(a: u16, b: u16) -> u16 {
+    let (mut x, mut y) = (a, b);
+    while y != 0 {
+        (x, y) = (y, x % y);
+    }
+    x
 }
 
 /// The ways to damage a sheet.
@@ -384,14 +490,23 @@ pub enum Damage {
     ReplaceMark,
     /// One to sixteen bytes after EN, or a whole record.
     Append,
+    /// SX's mark put in place of SW's, or SW's in place of SX's.
+    OtherKind,
+    /// A TK put behind an SW or SX.
+    TaskAfterSwitch,
     /// Nine modules.
     NinthModule,
     /// A mode with 17 tasks.
     SeventeenthTask,
     /// A sheet with 257 tasks, none of its modes with more than 16.
     Task257,
-    /// A sheet with 129 switches.
+    /// A sheet with 129 switches, of both kinds.
     Switch129,
+    /// A mode with an SX of which a multiple is at a release or a due tick, which
+    /// is no damage, or a tick within.
+    IdleBorder,
+    /// A mode with two switches to the same target, one of them SX at least.
+    TargetTwice,
     /// A module's number of modes that is not the number that follows.
     ModeCount,
     /// Two to four of the others, one after the other.
@@ -399,8 +514,9 @@ pub enum Damage {
 }
 
 impl Damage {
-    /// All ways.
-    pub const ALL: [Damage; 15] = [
+    /// All ways: first those that any bytes can be damaged in, last of all the one
+    /// that is made up of others.
+    pub const ALL: [Damage; 19] = [
         Damage::Truncate,
         Damage::ChangeByte,
         Damage::PushField,
@@ -410,13 +526,20 @@ impl Damage {
         Damage::ExchangeMarks,
         Damage::ReplaceMark,
         Damage::Append,
+        Damage::OtherKind,
+        Damage::TaskAfterSwitch,
         Damage::NinthModule,
         Damage::SeventeenthTask,
         Damage::Task257,
         Damage::Switch129,
+        Damage::IdleBorder,
+        Damage::TargetTwice,
         Damage::ModeCount,
         Damage::Several,
     ];
+
+    /// How many from the front of `ALL` any bytes can be damaged in.
+    const ON_ANY_BYTES: usize = 11;
 }
 
 /// The bytes of a sheet, damaged in this way. Most are refused, but not all: a
@@ -426,7 +549,9 @@ pub fn damaged(rng: &mut Rng, sheet: &Sheet, damage: Damage) -> Vec<u8> {
         Damage::NinthModule => encode(&ninth_module(rng, sheet)),
         Damage::SeventeenthTask => encode(&seventeenth_task(rng, sheet)),
         Damage::Task257 => encode(&task_257(sheet)),
-        Damage::Switch129 => encode(&switch_129(sheet)),
+        Damage::Switch129 => encode(&switch_129(rng, sheet)),
+        Damage::IdleBorder => encode(&idle_border(rng, sheet)),
+        Damage::TargetTwice => encode(&target_twice(rng, sheet)),
         Damage::Several => several(rng, sheet),
         bytewise => damage_bytes(rng, &encode(sheet), bytewise),
     }
@@ -434,10 +559,10 @@ pub fn damaged(rng: &mut Rng, sheet: &Sheet, damage: Damage) -> Vec<u8> {
 
 /// Several damages, the first of any kind, the rest on the bytes it leaves.
 fn several(rng: &mut Rng, sheet: &Sheet) -> Vec<u8> {
-    let first = *rng.pick(&Damage::ALL[..14]);
+    let first = *rng.pick(&Damage::ALL[..Damage::ALL.len() - 1]);
     let mut bytes = damaged(rng, sheet, first);
     for _ in 0..rng.between(1, 3) {
-        let next = *rng.pick(&Damage::ALL[..9]);
+        let next = *rng.pick(&Damage::ALL[..Damage::ON_ANY_BYTES]);
         bytes = damage_bytes(rng, &bytes, next);
     }
     bytes
@@ -472,6 +597,8 @@ fn damage_bytes(rng: &mut Rng, bytes: &[u8], damage: Damage) -> Vec<u8> {
         Damage::SwapRecords => pieces.swap(one, two),
         Damage::ExchangeMarks => exchange_marks(&mut pieces, one, two),
         Damage::ReplaceMark => put_mark(&mut pieces[one], rng.pick(&Mark::ALL).bytes()),
+        Damage::OtherKind => other_kind(rng, &mut pieces),
+        Damage::TaskAfterSwitch => task_after_switch(rng, &mut pieces),
         Damage::ModeCount => wrong_mode_count(rng, &mut pieces),
         _ => pieces.push(appended(rng)),
     }
@@ -514,6 +641,31 @@ fn exchange_marks(pieces: &mut [Vec<u8>], one: usize, two: usize) {
     if let (&[a, b, ..], &[c, d, ..]) = (&pieces[one][..], &pieces[two][..]) {
         put_mark(&mut pieces[one], [c, d]);
         put_mark(&mut pieces[two], [a, b]);
+    }
+}
+
+/// Where some SW or SX stands among the pieces, if there is one.
+fn some_switch(rng: &mut Rng, pieces: &[Vec<u8>]) -> Option<usize> {
+    let is_switch = |at: &usize| pieces[*at].starts_with(b"SW") || pieces[*at].starts_with(b"SX");
+    let places: Vec<usize> = (0..pieces.len()).filter(is_switch).collect();
+    (!places.is_empty()).then(|| *rng.pick(&places))
+}
+
+/// Makes an SX of some SW, or an SW of some SX.
+fn other_kind(rng: &mut Rng, pieces: &mut [Vec<u8>]) {
+    if let Some(at) = some_switch(rng, pieces) {
+        let other = if pieces[at][1] == b'W' { Mark::Sx } else { Mark::Sw };
+        put_mark(&mut pieces[at], other.bytes());
+    }
+}
+
+/// Puts a TK with good values, or one that stands elsewhere, behind some switch.
+fn task_after_switch(rng: &mut Rng, pieces: &mut Vec<Vec<u8>>) {
+    if let Some(at) = some_switch(rng, pieces) {
+        let elsewhere = pieces.iter().find(|piece| piece.starts_with(b"TK")).cloned();
+        let least = b"TK\0\0\x01\0\x01\0\x01\0".to_vec();
+        let task = elsewhere.filter(|_| rng.chance(50)).unwrap_or(least);
+        pieces.insert(at + 1, task);
     }
 }
 
@@ -599,8 +751,9 @@ fn task_257(sheet: &Sheet) -> Sheet {
     full
 }
 
-/// A sheet with 129 switches, the new ones at the ends of the mode periods.
-fn switch_129(sheet: &Sheet) -> Sheet {
+/// A sheet with 129 switches, the new ones at the ends of the mode periods, where
+/// both kinds are allowed.
+fn switch_129(rng: &mut Rng, sheet: &Sheet) -> Sheet {
     let mut full = filled(sheet);
     let mut lacking = (MOST_SWITCHES + 1).saturating_sub(full.counts().switches);
     for module in &mut full.modules {
@@ -608,11 +761,77 @@ fn switch_129(sheet: &Sheet) -> Sheet {
             for target in (0..MOST_MODES as u16).filter(|&t| usize::from(t) != own) {
                 let named = mode.switches.iter().any(|s| s.target == target);
                 if lacking > 0 && !named {
-                    mode.switches.push(Switch { target, period: mode.period });
+                    let kind = *rng.pick(&[Kind::Sw, Kind::Sx]);
+                    mode.switches.push(Switch { kind, target, period: mode.period });
                     lacking -= 1;
                 }
             }
         }
     }
     full
+}
+
+/// Some mode of the sheet, and the number of another mode of its module, which is
+/// given one if it has no other.
+fn some_mode<'a>(rng: &mut Rng, sheet: &'a mut Sheet) -> (&'a mut Mode, u16) {
+    let modules = sheet.modules.len();
+    let modes = &mut sheet.modules[rng.below(modules)].modes;
+    if modes.len() == 1 {
+        modes.push(Mode { period: 1, ..Mode::default() });
+    }
+    let own = rng.below(modes.len());
+    let other = (own + rng.between(1, modes.len() - 1)) % modes.len();
+    (&mut modes[own], other as u16)
+}
+
+/// The sheet with a mode in place of another whose SX is at a border of its rule.
+fn idle_border(rng: &mut Rng, sheet: &Sheet) -> Sheet {
+    let mut near = sheet.clone();
+    let (mode, target) = some_mode(rng, &mut near);
+    let period = *rng.pick(&[2, 3, 4, 6, 8, 12, 24, 60, 360, 1000]);
+    let grains = divisors(period, 1);
+    let grain = *rng.pick(&grains[..grains.len() - 1]);
+    let mut tasks = vec![border_task(rng, period, grain)];
+    if rng.chance(40) {
+        // An instance of one tick has nothing strictly within, wherever it is.
+        tasks.insert(rng.below(2), LEAST_TASK);
+    }
+    *mode =
+        Mode { period, tasks, switches: vec![Switch { kind: Kind::Sx, target, period: grain }] };
+    near
+}
+
+/// A task for a mode with this mode period and an SX with this switch period. In
+/// some task period a multiple of the switch period is at its release, at its due
+/// tick, one tick after its release or one before its due tick; or it is due at
+/// the end of the task period. No other multiple falls within an instance.
+fn border_task(rng: &mut Rng, mode_period: u16, grain: u16) -> Task {
+    let mut periods = divisors(mode_period, 1);
+    periods.retain(|&period| !grain.is_multiple_of(period));
+    let period = *rng.pick(&periods);
+    let slot = common_divisor(grain, period);
+    let border = slot * rng.between(1, usize::from(period / slot) - 1) as u16;
+    let ticks = rng.between(1, usize::from(slot)) as u16;
+    let (release, due) = match rng.below(5) {
+        0 => (border, border + ticks),
+        1 => (border - ticks, border),
+        2 => (border - 1, border + ticks),
+        3 => (border - ticks, border + 1),
+        _ => (period - ticks, period),
+    };
+    let cost = rng.between(1, usize::from(due - release)) as u16;
+    Task { offset: release, cost, let_ticks: due - release, period }
+}
+
+/// The sheet with a mode that names a target twice, at the end of the mode period
+/// both times: by SX and SW, in either order, or by SX and SX.
+fn target_twice(rng: &mut Rng, sheet: &Sheet) -> Sheet {
+    let mut twice = sheet.clone();
+    let (mode, target) = some_mode(rng, &mut twice);
+    mode.switches.retain(|switch| switch.target != target);
+    for kind in *rng.pick(&[[Kind::Sw, Kind::Sx], [Kind::Sx, Kind::Sw], [Kind::Sx, Kind::Sx]]) {
+        let at = rng.between(0, mode.switches.len());
+        mode.switches.insert(at, Switch { kind, target, period: mode.period });
+    }
+    twice
 }

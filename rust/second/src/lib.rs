@@ -19,13 +19,14 @@
 //! 2. A switch's target is judged where the switch stands, against the number
 //!    of modes its module states, whether or not those modes follow.
 //! 3. "Named once in a mode": the second switch to the same target is the bad
-//!    record, whatever its period.
+//!    record, whatever its period, and whichever of SW and SX the two are.
 //! 4. An ML field of 0 or above 8 is a value fault (5). A further MD in a full
 //!    module, and an ML or EN in one not yet full, are order faults (3). EN
 //!    straight after HZ is an order fault, since one module at least is wanted.
-//! 5. Order goes before counts, so the 17th TK after an SW is 3, and a ninth
+//! 5. Order goes before counts, so the 17th TK after an SW or SX is 3, and a ninth
 //!    ML while the eighth module lacks modes is 3. Counts go before values, so
-//!    the 17th TK with a bad field is 4.
+//!    the 17th TK with a bad field is 4, and so is a bad SX that is the 129th of
+//!    SW and SX together.
 //! 6. [`judge`] takes bytes of any number. Only the program cuts its input to
 //!    3,625 bytes, so [`report`] cuts and `judge` does not. The two can differ
 //!    for an input longer than that: a record that begins before the cut and
@@ -50,13 +51,19 @@
 //! 11. The tapes have b bytes each, each byte the mode's number as a value
 //!     (not a digit); the report alone turns them into digits.
 //! 12. Every line of the report, `refused N at P` too, ends with one newline.
+//! 13. SX, by change request k, keeps every rule of SW but the one on the task
+//!     periods, and stands in any order among the SW records. Its own rule looks
+//!     at every instance that a task of the mode releases in one mode period. A
+//!     multiple of the switch period may be a release or a due tick. A run that
+//!     leaves at a multiple where the old mode would release something does not
+//!     release it, as with SW. The report's number of switches counts both kinds.
 
 pub mod brute;
 pub mod generate;
 pub mod sheet;
 pub mod table;
 
-pub use sheet::{encode, judge, Counts, Mode, Module, Refusal, Sheet, Switch, Task};
+pub use sheet::{encode, judge, Counts, Kind, Mode, Module, Refusal, Sheet, Switch, Task};
 pub use table::reached;
 
 /// Working memory that has to be lent, in numbers of 32 bits.

@@ -28,9 +28,30 @@ pub struct Task {
     pub period: u16,
 }
 
+/// The kind of a switch, by its mark. Runs read both alike; the rules of the
+/// switch period differ.
+#[derive(Clone, Copy, Debug, PartialEq, Eq)]
+pub enum Kind {
+    /// SW: the switch period is a multiple of every task period of the mode.
+    Sw,
+    /// SX: no multiple of the switch period falls within an instance.
+    Sx,
+}
+
+impl Kind {
+    /// The mark of such a switch.
+    pub fn mark(self) -> Mark {
+        match self {
+            Kind::Sw => Mark::Sw,
+            Kind::Sx => Mark::Sx,
+        }
+    }
+}
+
 /// A switch to mode `target` at every multiple of `period`.
 #[derive(Clone, Copy, Debug, PartialEq, Eq)]
 pub struct Switch {
+    pub kind: Kind,
     pub target: u16,
     pub period: u16,
 }
@@ -41,6 +62,14 @@ pub struct Mode {
     pub period: u16,
     pub tasks: Vec<Task>,
     pub switches: Vec<Switch>,
+}
+
+impl Mode {
+    /// Whether the switch period is a multiple of every task period of the mode: the
+    /// rule that SW keeps and SX lifts.
+    pub fn task_periods_divide(&self, switch_period: u16) -> bool {
+        self.tasks.iter().all(|task| switch_period.is_multiple_of(task.period))
+    }
 }
 
 /// A module: its modes, numbered from 0, mode 0 being the initial one.
@@ -99,7 +128,7 @@ pub struct Refusal {
     pub place: usize,
 }
 
-/// The six marks of the list.
+/// The seven marks of the list.
 #[derive(Clone, Copy, Debug, PartialEq, Eq)]
 pub enum Mark {
     Hz,
@@ -107,12 +136,15 @@ pub enum Mark {
     Md,
     Tk,
     Sw,
+    Sx,
     En,
 }
 
 impl Mark {
-    /// All marks, in the order of the paper's table.
-    pub const ALL: [Mark; 6] = [Mark::Hz, Mark::Ml, Mark::Md, Mark::Tk, Mark::Sw, Mark::En];
+    /// All marks, in the order of the paper's table; SX, which came later, is
+    /// next to SW.
+    pub const ALL: [Mark; 7] =
+        [Mark::Hz, Mark::Ml, Mark::Md, Mark::Tk, Mark::Sw, Mark::Sx, Mark::En];
 
     /// The two ASCII bytes of the mark.
     pub fn bytes(self) -> [u8; 2] {
@@ -122,6 +154,7 @@ impl Mark {
             Mark::Md => b"MD",
             Mark::Tk => b"TK",
             Mark::Sw => b"SW",
+            Mark::Sx => b"SX",
             Mark::En => b"EN",
         }
     }
@@ -135,7 +168,7 @@ impl Mark {
     pub fn fields(self) -> usize {
         match self {
             Mark::Tk => 4,
-            Mark::Sw => 2,
+            Mark::Sw | Mark::Sx => 2,
             _ => 1,
         }
     }
@@ -235,20 +268,22 @@ impl Judging {
             Mark::Ml => self.last == Some(Mark::Hz) || self.module_full(),
             Mark::Md => !self.sheet.modules.is_empty() && !self.module_full(),
             Mark::Tk => matches!(self.last, Some(Mark::Md | Mark::Tk)),
-            Mark::Sw => matches!(self.last, Some(Mark::Md | Mark::Tk | Mark::Sw)),
+            Mark::Sw | Mark::Sx => {
+                matches!(self.last, Some(Mark::Md | Mark::Tk | Mark::Sw | Mark::Sx))
+            }
             Mark::En => self.module_full(),
         }
     }
 
     /// Whether one more such record would be the ninth ML, the 17th TK of the
-    /// mode, the 257th TK or the 129th SW.
+    /// mode, the 257th TK or the 129th of SW and SX together.
     fn exceeds(&self, mark: Mark) -> bool {
         match mark {
             Mark::Ml => self.sheet.modules.len() == MOST_MODULES,
             Mark::Tk => {
                 self.open_mode().tasks.len() == MOST_TASKS_IN_MODE || self.tasks == MOST_TASKS
             }
-            Mark::Sw => self.switches == MOST_SWITCHES,
+            Mark::Sw | Mark::Sx => self.switches == MOST_SWITCHES,
             _ => false,
         }
     }
@@ -259,7 +294,8 @@ impl Judging {
         module.modes.last().expect("a mode is open")
     }
 
-    /// The rules of the fields: 5 for HZ, ML, MD and TK, 6 for SW, 7 for EN.
+    /// The rules of the fields: 5 for HZ, ML, MD and TK, 6 for SW and SX, 7 for
+    /// EN.
     fn check_values(&self, record: &Record) -> Result<(), u8> {
         let field = record.fields[0];
         let (good, number) = match record.mark {
@@ -267,7 +303,7 @@ impl Judging {
             Mark::Ml => ((1..=MOST_MODES as u16).contains(&field), 5),
             Mark::Md => ((1..=LONGEST_PERIOD).contains(&field), 5),
             Mark::Tk => (task_good(&task_of(record), self.open_mode()), 5),
-            Mark::Sw => (self.switch_good(&switch_of(record)), 6),
+            Mark::Sw | Mark::Sx => (self.switch_good(&switch_of(record)), 6),
             Mark::En => (usize::from(field) == self.records, 7),
         };
         good.then_some(()).ok_or(number)
@@ -283,7 +319,10 @@ impl Judging {
             && mode.switches.iter().all(|s| s.target != switch.target)
             && switch.period >= 1
             && mode.period.is_multiple_of(switch.period)
-            && mode.tasks.iter().all(|t| switch.period.is_multiple_of(t.period))
+            && match switch.kind {
+                Kind::Sw => mode.task_periods_divide(switch.period),
+                Kind::Sx => idle_at_multiples(mode, switch.period),
+            }
     }
 
     /// Enters a record that has passed.
@@ -295,20 +334,20 @@ impl Judging {
                 self.stated_modes = usize::from(record.fields[0]);
                 sheet.modules.push(Module::default());
             }
-            Mark::Md | Mark::Tk | Mark::Sw => {
+            Mark::Md | Mark::Tk | Mark::Sw | Mark::Sx => {
                 let module = sheet.modules.last_mut().expect("a module is open");
                 add_to_module(module, record);
             }
             Mark::En => {}
         }
         self.tasks += usize::from(record.mark == Mark::Tk);
-        self.switches += usize::from(record.mark == Mark::Sw);
+        self.switches += usize::from(matches!(record.mark, Mark::Sw | Mark::Sx));
         self.records += 1;
         self.last = Some(record.mark);
     }
 }
 
-/// Enters an MD, TK or SW record in the open module.
+/// Enters an MD, TK, SW or SX record in the open module.
 fn add_to_module(module: &mut Module, record: &Record) {
     if record.mark == Mark::Md {
         let period = record.fields[0];
@@ -331,16 +370,32 @@ fn task_good(task: &Task, mode: &Mode) -> bool {
         && mode.period.is_multiple_of(task.period)
 }
 
+/// The rule of an SX: no positive multiple of its period up to the mode period
+/// falls strictly between the release and the due tick of an instance that a task
+/// of the mode releases in one mode period. The switch period is not 0 here.
+fn idle_at_multiples(mode: &Mode, switch_period: u16) -> bool {
+    let multiples: Vec<u16> =
+        (1..=mode.period / switch_period).map(|n| n * switch_period).collect();
+    mode.tasks.iter().all(|task| {
+        let mut releases = (task.offset..mode.period).step_by(usize::from(task.period));
+        releases.all(|release| {
+            let due = release + task.let_ticks;
+            !multiples.iter().any(|&tick| release < tick && tick < due)
+        })
+    })
+}
+
 /// The fields of a TK record, named.
 fn task_of(record: &Record) -> Task {
     let [offset, cost, let_ticks, period] = record.fields;
     Task { offset, cost, let_ticks, period }
 }
 
-/// The fields of an SW record, named.
+/// The kind and the fields of an SW or SX record, named.
 fn switch_of(record: &Record) -> Switch {
     let [target, period, ..] = record.fields;
-    Switch { target, period }
+    let kind = if record.mark == Mark::Sx { Kind::Sx } else { Kind::Sw };
+    Switch { kind, target, period }
 }
 
 /// Writes the sheet's bytes. It judges nothing: a sheet that breaks a rule or
@@ -363,7 +418,7 @@ pub fn encode(sheet: &Sheet) -> Vec<u8> {
                 before = put(Mark::Tk, &[t.offset, t.cost, t.let_ticks, t.period]);
             }
             for s in &mode.switches {
-                before = put(Mark::Sw, &[s.target, s.period]);
+                before = put(s.kind.mark(), &[s.target, s.period]);
             }
         }
     }

@@ -3,12 +3,11 @@
 //!
 //! Three facts keep it quick:
 //!
-//! * **Folding.** Every switch period is a multiple of every task period of
-//!   its mode, and all divide the mode period. So mode times that leave the
-//!   same rest by the mode's *cycle* (the common multiple of its switch
-//!   periods, or of its task periods where it has no switch) have the same
-//!   releases, the same switches and the same tapes ahead of them. A state is
-//!   a mode and a mode time below the cycle.
+//! * **Folding.** All task periods and switch periods of a mode divide its
+//!   period, and so does their least common multiple, the mode's *cycle*. So
+//!   mode times that leave the same rest by the cycle have the same releases,
+//!   the same switches and the same tapes ahead of them. A state is a mode and
+//!   a mode time below the cycle.
 //! * **Releases only.** If no instance is released in a state, its demand for
 //!   a length is the largest demand of a state after it for one tick less. So
 //!   the largest demand of any run in a to b is that in a + 1 to b, or that of
@@ -17,8 +16,9 @@
 //!   the set of states reached at tick a, and few different sets occur.
 //!
 //! No demand of one module exceeds 32,000: the instances of one task never
-//! overlap, each costs at most its LET, a mode has at most 16 tasks and the
-//! horizon is at most 2,000. So the tables hold numbers of 16 bits.
+//! overlap, all are due by the time their mode is left, each costs at most its
+//! LET, a mode has at most 16 tasks and the horizon is at most 2,000. So the
+//! tables hold numbers of 16 bits.
 
 use crate::sheet::{Mode, Module, Sheet, Task};
 use crate::{Exact, Quick};

@@ -253,7 +253,7 @@ impl Plain {
 fn medium_sheets() {
     let mut rng = Rng::new(3);
     let mut seen = Seen::default();
-    for _ in 0..1000 {
+    for _ in 0..1500 {
         let made = sheet(&mut rng, &Shape::medium());
         let horizon = usize::from(made.horizon);
         let plain: Vec<Plain> = made.modules.iter().map(|m| Plain::of(m, horizon)).collect();
@@ -265,7 +265,7 @@ fn medium_sheets() {
         seen.note(&made, &quick, &exact);
         seen.spared += usize::from(quick == Quick::Clear && if_all_counted != Quick::Clear);
     }
-    println!("1000 sheets: {seen:?}");
+    println!("1500 sheets: {seen:?}");
     assert!(seen.all_at_least(20) && seen.spared > 20);
     assert!(seen.kinds.all_at_least(20, 7) && seen.kinds.all_walked(5));
 }
@@ -316,7 +316,7 @@ fn large_sheets() {
         (4, Shape::realistic(), 25),
         (5, Shape::wide(), 60),
         (6, Shape::wide_light(), 60),
-        (7, Shape::fullest(), 15),
+        (7, Shape::fullest(), 25),
     ] {
         let mut rng = Rng::new(seed);
         let mut seen = Seen::default();

@@ -4,18 +4,6 @@ use second::generate::{any_records, damaged, sheet, split, Damage, Rng, Shape};
 use second::sheet::LONGEST_SHEET;
 use second::{brute, encode, judge, report, Refusal, Sheet};
 
-fn shapes() -> [Shape; 7] {
-    [
-        Shape::small(),
-        Shape::small_light(),
-        Shape::medium(),
-        Shape::realistic(),
-        Shape::wide(),
-        Shape::wide_light(),
-        Shape::fullest(),
-    ]
-}
-
 /// Both judges agree; gives the refusal number, 0 for none. A sheet that
 /// passes is written back as the same bytes.
 fn number(bytes: &[u8]) -> usize {
@@ -33,7 +21,7 @@ fn number(bytes: &[u8]) -> usize {
 #[test]
 fn round_trips() {
     let mut rng = Rng::new(10);
-    for shape in shapes() {
+    for (_, shape) in Shape::all() {
         for _ in 0..400 {
             let made = sheet(&mut rng, &shape);
             let bytes = encode(&made);
@@ -56,7 +44,7 @@ fn longest_sheet() {
 #[test]
 fn every_cut() {
     let mut rng = Rng::new(12);
-    for shape in shapes() {
+    for (_, shape) in Shape::all() {
         let bytes = encode(&sheet(&mut rng, &shape));
         let mut place = 0;
         for record in split(&bytes) {
@@ -98,7 +86,7 @@ fn damage() {
     for kind in Damage::ALL {
         let mut numbers = [0; 9];
         for _ in 0..300 {
-            for shape in shapes() {
+            for (_, shape) in Shape::all() {
                 let made = sheet(&mut rng, &shape);
                 numbers[number(&damaged(&mut rng, &made, kind))] += 1;
             }
@@ -135,17 +123,66 @@ fn limits_exceeded() {
     }
 }
 
+/// The damages to do with SX: each comes to its refusal, or to 4 in a sheet that is
+/// full; those that may leave a sheet good do so often, the others never. Sheets
+/// without a switch are left out where the damage needs one.
+#[test]
+fn damage_of_idle_switches() {
+    let mut rng = Rng::new(19);
+    for (kind, wanted, at, behind, may_pass) in [
+        (Damage::IdleBorder, 6, "SX", "TK", true),
+        (Damage::OtherKind, 6, "SW", "TK", true),
+        (Damage::TaskAfterSwitch, 3, "TK", "SX", false),
+        (Damage::Switch129, 4, "SX", "SX", false),
+        (Damage::Switch129, 4, "SX", "SW", false),
+        (Damage::TargetTwice, 6, "SX", "SW", false),
+        (Damage::TargetTwice, 6, "SW", "SX", false),
+    ] {
+        let needs_switch = matches!(kind, Damage::OtherKind | Damage::TaskAfterSwitch);
+        let (mut passed, mut refused) = (0, 0);
+        for _ in 0..200 {
+            for (_, shape) in Shape::all() {
+                let made = sheet(&mut rng, &shape);
+                if needs_switch && made.counts().switches == 0 {
+                    continue;
+                }
+                let bytes = damaged(&mut rng, &made, kind);
+                let number = number(&bytes);
+                let may_come = number == wanted || number == 4 || (may_pass && number == 0);
+                assert!(may_come, "{kind:?}: {number}, {bytes:?}");
+                let marks = marks_at_refusal(&bytes);
+                passed += usize::from(number == 0);
+                refused += usize::from(number == wanted && marks == [behind, at]);
+            }
+        }
+        println!("{kind:?}: {passed} passed, {wanted} at {at} behind {behind} {refused}");
+        assert!(refused >= 100 && (!may_pass || passed >= 500), "{kind:?}");
+    }
+}
+
+/// The marks of the record before the refused one, if there is one, and of the
+/// refused one, empty if fewer than two bytes are left; none if the sheet passes.
+fn marks_at_refusal(bytes: &[u8]) -> Vec<String> {
+    let Err(Refusal { place, .. }) = judge(bytes) else { return Vec::new() };
+    let text = |mark: &[u8]| String::from_utf8_lossy(mark).into_owned();
+    let mark = |piece: &Vec<u8>| piece.get(..2).map_or(String::new(), text);
+    let before = split(&bytes[..place]).last().map(mark);
+    before.into_iter().chain([mark(&bytes[place..].to_vec())]).collect()
+}
+
 /// The order of refusals within one record.
 #[test]
 fn precedence() {
     let full = encode(&sheet(&mut Rng::new(16), &Shape::fullest()));
     let body = &full[..full.len() - 4];
-    // The 257th TK stands after SW here, so it is 3 before it is 4.
+    // The 257th TK stands after a switch here, so it is 3 before it is 4.
     assert_eq!(number(&[body, b"TK\0\0\0\0\0\0\0\0"].concat()), 3);
-    // The 129th SW breaks its rule as well, yet counts go first.
+    // The 129th switch breaks its rule as well, yet counts go first.
     assert_eq!(number(&[body, b"SW\0\0\0\0"].concat()), 4);
+    assert_eq!(number(&[body, b"SX\0\0\0\0"].concat()), 4);
     // Its fields cut short go before its order and its count.
     assert_eq!(number(&[body, b"SW\0\0\0"].concat()), 1);
+    assert_eq!(number(&[body, b"SX\0\0\0"].concat()), 1);
     assert_eq!(number(&[body, b"TK\0\0\0"].concat()), 1);
     // A ninth ML with a bad number is 4; a ninth mode is 3.
     assert_eq!(number(&[body, b"ML\x09\0"].concat()), 4);

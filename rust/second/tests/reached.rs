@@ -5,8 +5,8 @@ mod built;
 
 use built::{both, mode, sheet, text};
 use second::{
-    brute, judge, mode_demand, module_demand, reached, state_demand, Exact, Mode, Module, Quick,
-    WORK_LEN,
+    brute, judge, mode_demand, module_demand, reached, state_demand, Exact, Kind, Mode, Module,
+    Quick, Switch, WORK_LEN,
 };
 
 /// Checks module demands (length, demand) of a sheet's module 0, both ways.
@@ -90,7 +90,7 @@ fn factory_mode_queries() {
 #[test]
 fn factory_mode_entered() {
     let mut modules = judge(&panel(Some(factory()))).unwrap().modules;
-    modules[0].modes[1].switches.push(second::Switch { target: 2, period: 8 });
+    modules[0].modes[1].switches.push(Switch { kind: Kind::Sw, target: 2, period: 8 });
     let bytes = sheet(16, modules.into_iter().map(|module| module.modes).collect());
     // The switch comes at tick 16 at the earliest, which is not before the horizon.
     assert_eq!(both(&bytes), (Quick::Over { length: 4, demand: 8 }, Exact::Clear));

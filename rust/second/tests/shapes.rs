@@ -1,5 +1,5 @@
-//! The made-up sheets of every shape: modes that are not reached and chains are
-//! among them, and the fullest stay full.
+//! The made-up sheets of every shape: modes that are not reached, chains and SX
+//! are among them, and the fullest stay full.
 
 mod kinds;
 
@@ -8,7 +8,7 @@ use second::encode;
 use second::generate::{sheet, Rng, Shape};
 use second::sheet::LONGEST_SHEET;
 
-/// The kinds of modules among 1,000 sheets of a shape.
+/// The kinds of modules and switches among 1,000 sheets of a shape.
 fn kinds(name: &str, shape: &Shape) -> Kinds {
     let mut rng = Rng::new(30);
     let mut kinds = Kinds::default();
@@ -21,19 +21,30 @@ fn kinds(name: &str, shape: &Shape) -> Kinds {
 /// reached, and as many have none; chains of every length come.
 #[test]
 fn unreached_modes_and_chains() {
-    for (name, shape, longest_chain) in [
-        ("small", Shape::small(), 7),
-        ("small_light", Shape::small_light(), 7),
-        ("medium", Shape::medium(), 7),
-        ("realistic", Shape::realistic(), 3),
-        ("wide", Shape::wide(), 7),
-        ("wide_light", Shape::wide_light(), 7),
-        ("fullest", Shape::fullest(), 0),
-    ] {
+    for (name, shape) in Shape::all() {
+        let longest_chain = match name {
+            "realistic" => 3,
+            "fullest" => 0,
+            _ => 7,
+        };
         let kinds = kinds(name, &shape);
         assert!(kinds.all_at_least(10, longest_chain), "{name}");
         let share = 100 * kinds.unreached / kinds.several;
         assert!((33..=67).contains(&share), "{name}");
+    }
+}
+
+/// SX comes in half of the sheets of every shape at least, one that could not be
+/// an SW in a fifth, with multiples at releases and at due ticks; and modes have
+/// either kind or both.
+#[test]
+fn idle_switches() {
+    for (name, shape) in Shape::all() {
+        let switches = kinds(name, &shape).switches;
+        assert!(switches.sx >= 500 && switches.sx_alone >= 200, "{name}");
+        assert!(switches.at_release >= 50 && switches.at_due >= 100, "{name}");
+        assert!(switches.sw_mode >= 300 && switches.sx_mode >= 300, "{name}");
+        assert!(switches.mixed_mode >= 80, "{name}");
     }
 }
 

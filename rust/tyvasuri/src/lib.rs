@@ -4,10 +4,12 @@
 //!
 //! A sheet is a row of bytes. It lists modules; a module has modes, and a mode
 //! has tasks (offset, cost, LET, period) and switches to the module's other
-//! modes. The checker says whether a sheet is well formed, what its modes,
-//! states and modules can demand, and whether every deadline up to its horizon
-//! can be met whatever switches are made: the quick test, and the exact test
-//! with a tape for each module as the witness where it says over.
+//! modes. A mode is left by SW at multiples of all its task periods, and by SX
+//! also between them, at ticks where no instance is under way. The checker says
+//! whether a sheet is well formed, what its modes, states and modules can demand,
+//! and whether every deadline up to its horizon can be met whatever switches are
+//! made: the quick test, and the exact test with a tape for each module as the
+//! witness where it says over.
 //!
 //! # Two ways to call
 //!

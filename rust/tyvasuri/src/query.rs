@@ -13,9 +13,23 @@ use crate::{answer, archive, Counts, Exact, Quick, Refusal};
 /// # Ok::<(), tyvasuri::Refusal>(())
 /// ```
 ///
+/// An SX may leave its mode at an instance's release or due tick, and not at a
+/// tick between the two:
+///
+/// ```
+/// use tyvasuri::{judge, Fault, Refusal};
+///
+/// let mut bytes = *include_bytes!("../../../examples/leave_by_sx.sheet");
+/// // SX 1 4 stands at byte 22; the mode's instance is released at 0 and due at 4
+/// assert_eq!(judge(&bytes)?.switches, 2);
+/// bytes[26] = 2;
+/// assert_eq!(judge(&bytes), Err(Refusal::new(Fault::BadSwitch, 22)));
+/// # Ok::<(), tyvasuri::Refusal>(())
+/// ```
+///
 /// # Errors
 ///
-/// Refused for the first fault of the sheet, by document 01.
+/// Refused for the first fault of the sheet, by documents 01 and 02.
 pub fn judge(bytes: &[u8]) -> Result<Counts, Refusal> {
     answer::counts(archive::judge(bytes))
 }

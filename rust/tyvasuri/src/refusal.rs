@@ -24,11 +24,12 @@ pub enum Fault {
     /// 3: a mark is out of order, or a module is closed or exceeded against its
     /// number of modes.
     OutOfOrder = 3,
-    /// 4: a ninth ML, a 17th TK in a mode, a 257th TK or a 129th SW.
+    /// 4: a ninth ML, a 17th TK in a mode, a 257th TK or a 129th of SW and SX
+    /// together.
     PastCount = 4,
     /// 5: a field of HZ, ML, MD or TK breaks its rule.
     BadField = 5,
-    /// 6: a field of SW breaks its rule.
+    /// 6: a field of SW or SX breaks its rule.
     BadSwitch = 6,
     /// 7: EN's number is wrong.
     BadEnd = 7,
@@ -87,13 +88,15 @@ impl fmt::Display for Fault {
     fn fmt(&self, f: &mut fmt::Formatter<'_>) -> fmt::Result {
         f.write_str(match self {
             Fault::CutShort => "the sheet ends where a mark or a field is wanted",
-            Fault::UnknownMark => "the mark is none of HZ, ML, MD, TK, SW and EN",
+            Fault::UnknownMark => "the mark is none of HZ, ML, MD, TK, SW, SX and EN",
             Fault::OutOfOrder => {
                 "the mark is out of order, or the module has fewer or more modes than it states"
             }
-            Fault::PastCount => "it is a ninth ML, a 17th TK in a mode, a 257th TK or a 129th SW",
+            Fault::PastCount => {
+                "it is a ninth ML, a 17th TK in a mode, a 257th TK or a 129th of SW and SX together"
+            }
             Fault::BadField => "a field of HZ, ML, MD or TK breaks its rule",
-            Fault::BadSwitch => "a field of SW breaks its rule",
+            Fault::BadSwitch => "a field of SW or SX breaks its rule",
             Fault::BadEnd => "EN's number is not that of the records before it",
             Fault::BytesAfter => "bytes stand after EN",
             Fault::OutOfRange => "a module, mode, mode time or length is out of range",

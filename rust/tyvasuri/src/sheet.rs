@@ -21,7 +21,7 @@ pub struct Counts {
     pub modes: usize,
     /// The number of tasks of all modes.
     pub tasks: usize,
-    /// The number of switches of all modes.
+    /// The number of switches of all modes, SW and SX together.
     pub switches: usize,
     /// The horizon in ticks, 1 to 2,000.
     pub horizon: usize,
@@ -114,7 +114,7 @@ impl<'s> Sheet<'s> {
     ///
     /// # Errors
     ///
-    /// Refused for the first fault of the sheet, by document 01.
+    /// Refused for the first fault of the sheet, by documents 01 and 02.
     pub fn judge(bytes: &'s [u8]) -> Result<Sheet<'s>, Refusal> {
         let counts = query::judge(bytes)?;
         Ok(Sheet { bytes, counts })

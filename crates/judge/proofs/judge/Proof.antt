@@ -21,7 +21,7 @@ new-requires : tie.Need-new-requires Inv-loop μ-loop
 new-requires c κs = search needs
 
 loop-holds : tie.Need-loop-holds Inv-loop μ-loop
-loop-holds c = begins _ _ (c .new .ensures)
+loop-holds c = begins _ _ (c .new .ensures _)
 
 step-requires : tie.Need-step-requires Inv-loop μ-loop
 step-requires c κs = within _ _ (c .before .before .loop .inv) (not-true _ (c .if1 .taken))

@@ -30,7 +30,11 @@ returns-6 c = rw (c .match .keys6)
 
 returns-7 : tie.Need-returns-7
 unfolding markCoded
-returns-7 c =
+returns-7 c = rw (c .match .keys7)
+
+returns-8 : tie.Need-returns-8
+unfolding markCoded
+returns-8 c =
     let r = c .match .rest in
     simp (
       ne-eqb _ _ (r .1),
@@ -39,8 +43,9 @@ returns-7 c =
       ne-eqb _ _ (r .0 .0 .0 .1),
       ne-eqb _ _ (r .0 .0 .0 .0 .1),
       ne-eqb _ _ (r .0 .0 .0 .0 .0 .1),
+      ne-eqb _ _ (r .0 .0 .0 .0 .0 .0 .1),
     )
 
 pub listed-spec : {M : Type 1} → statement M
 listed-spec =
-    tie.close (tie.spec returns returns-2 returns-3 returns-4 returns-5 returns-6 returns-7)
+    tie.close (tie.spec returns returns-2 returns-3 returns-4 returns-5 returns-6 returns-7 returns-8)

@@ -1,8 +1,8 @@
 //! Sheets built by hand, and their answers by both ways.
 
 use second::{
-    brute, encode, exact, judge, quick, report, Exact, Mode, Module, Quick, Sheet, Switch, Task,
-    WORK_LEN,
+    brute, encode, exact, judge, quick, report, Exact, Kind, Mode, Module, Quick, Sheet, Switch,
+    Task, WORK_LEN,
 };
 
 /// The fields of a task in the paper's order.
@@ -13,12 +13,14 @@ fn task((offset, cost, let_ticks, period): Fields) -> Task {
     Task { offset, cost, let_ticks, period }
 }
 
-/// A mode with tasks in the paper's order of fields, and switches (target, period).
+/// A mode with tasks in the paper's order of fields, and SW switches (target,
+/// period).
 pub fn mode(period: u16, tasks: &[Fields], switches: &[(u16, u16)]) -> Mode {
+    let switch = |&(target, period)| Switch { kind: Kind::Sw, target, period };
     Mode {
         period,
         tasks: tasks.iter().copied().map(task).collect(),
-        switches: switches.iter().map(|&(target, period)| Switch { target, period }).collect(),
+        switches: switches.iter().map(switch).collect(),
     }
 }
 

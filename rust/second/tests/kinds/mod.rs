@@ -1,13 +1,14 @@
-//! Counts of the kinds of modules that come, so that a test that misses one is
+//! Counts of the kinds of modules and switches that come, so that a test that misses one is
 //! noticed.
 
 use second::sheet::MOST_MODES;
-use second::{reached, Mode, Module, Sheet};
+use second::{reached, Kind, Mode, Module, Sheet, Switch, Task};
 
-/// How many modules of each kind came. Of a row, entry n counts chains of n
-/// switches.
+/// How many modules of each kind came, and how many sheets with each kind of
+/// switches. Of a row, entry n counts chains of n switches.
 #[derive(Default, Debug)]
 pub struct Kinds {
+    pub switches: Switches,
     /// With more than one mode.
     pub several: usize,
     /// Of these, with a mode that is not reached.
@@ -28,9 +29,67 @@ pub struct Kinds {
     pub not_ascending: [usize; MOST_MODES],
 }
 
+/// How many sheets with each kind of switches came.
+#[derive(Default, Debug)]
+pub struct Switches {
+    /// With an SX.
+    pub sx: usize,
+    /// With an SX that could not be an SW.
+    pub sx_alone: usize,
+    /// The same, where a multiple before the mode period is a release.
+    pub at_release: usize,
+    /// The same, where a multiple before the mode period is a due tick.
+    pub at_due: usize,
+    /// With a mode that has SW and no SX.
+    pub sw_mode: usize,
+    /// With a mode that has SX and no SW.
+    pub sx_mode: usize,
+    /// With a mode that has both.
+    pub mixed_mode: usize,
+}
+
+impl Switches {
+    /// Counts a sheet.
+    fn note(&mut self, sheet: &Sheet) {
+        let has = |mode: &Mode, kind: Kind| mode.switches.iter().any(|s| s.kind == kind);
+        let some = |holds: &dyn Fn(&Mode) -> bool| usize::from(sheet.modes().any(holds));
+        self.sx += some(&|mode| has(mode, Kind::Sx));
+        self.sx_alone += some(&|mode| sx_alone(mode).next().is_some());
+        self.at_release += some(&|mode| sx_alone(mode).any(|s| meets(mode, s, 0)));
+        self.at_due += some(&|mode| sx_alone(mode).any(|s| meets(mode, s, 1)));
+        self.sw_mode += some(&|mode| has(mode, Kind::Sw) && !has(mode, Kind::Sx));
+        self.sx_mode += some(&|mode| has(mode, Kind::Sx) && !has(mode, Kind::Sw));
+        self.mixed_mode += some(&|mode| has(mode, Kind::Sw) && has(mode, Kind::Sx));
+    }
+
+    /// Whether every kind came so often.
+    fn all_at_least(&self, least: usize) -> bool {
+        let alone = [self.sx_alone, self.at_release, self.at_due];
+        let modes = [self.sw_mode, self.sx_mode, self.mixed_mode];
+        alone.into_iter().chain(modes).all(|count| count >= least)
+    }
+}
+
+/// The switches of a mode that could not be SW.
+fn sx_alone(mode: &Mode) -> impl Iterator<Item = &Switch> {
+    mode.switches.iter().filter(|switch| !mode.task_periods_divide(switch.period))
+}
+
+/// Whether a multiple before the mode period is a release (0 times the LET after
+/// it) or a due tick (once).
+fn meets(mode: &Mode, switch: &Switch, times: u16) -> bool {
+    let mut multiples = (switch.period..mode.period).step_by(usize::from(switch.period));
+    let border = |task: &Task, tick: u16| {
+        tick.checked_sub(task.offset + times * task.let_ticks)
+            .is_some_and(|after| after.is_multiple_of(task.period))
+    };
+    multiples.any(|tick| mode.tasks.iter().any(|task| border(task, tick)))
+}
+
 impl Kinds {
-    /// Counts a sheet's modules.
+    /// Counts a sheet and its modules.
     pub fn note(&mut self, sheet: &Sheet) {
+        self.switches.note(sheet);
         for module in sheet.modules.iter().filter(|module| module.modes.len() > 1) {
             self.several += 1;
             self.note_unreached(module);
@@ -70,7 +129,8 @@ impl Kinds {
                 && (self.not_alone[n] >= least || n + 1 == MOST_MODES)
                 && (self.not_ascending[n] >= least || n == 1)
         });
-        chains_came && counts.into_iter().all(|count| count >= least)
+        let others_came = counts.into_iter().all(|count| count >= least);
+        chains_came && others_came && self.switches.all_at_least(least)
     }
 
     /// Whether chains of every length were walked to the end so often.

@@ -1,6 +1,9 @@
 //! The sheets of the folder `examples`, each with what is printed for it.
 
-use crate::sheets::{sheet_a, sheet_b, sheet_f, sheet_factory, sheet_g, sheet_h};
+use crate::sheets::{
+    sheet_a, sheet_b, sheet_f, sheet_factory, sheet_g, sheet_h, sheet_leave_by_sw,
+    sheet_leave_by_sx, sheet_leave_by_sx_over,
+};
 use std::ffi::OsStr;
 use std::fs;
 use std::path::{Path, PathBuf};
@@ -23,7 +26,7 @@ fn files(ending: &str) -> Vec<PathBuf> {
 #[test]
 fn every_sheet_prints_its_lines() {
     let sheets = files("sheet");
-    assert!(sheets.len() >= 8);
+    assert!(sheets.len() >= 11);
     let printed: Vec<PathBuf> = sheets.iter().map(|path| path.with_extension("out")).collect();
     assert_eq!(files("out"), printed);
     let mut memory = Memory::new();
@@ -46,6 +49,9 @@ fn sheets_are_the_worked_ones() {
         ("g_alternating_over", sheet_g()),
         ("h_smallest", sheet_h()),
         ("factory_mode", sheet_factory()),
+        ("leave_by_sw", sheet_leave_by_sw()),
+        ("leave_by_sx", sheet_leave_by_sx()),
+        ("leave_by_sx_over", sheet_leave_by_sx_over()),
     ] {
         assert_eq!(fs::read(folder().join(name).with_extension("sheet")).unwrap(), bytes, "{name}");
     }

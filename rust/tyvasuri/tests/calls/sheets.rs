@@ -74,3 +74,31 @@ pub fn sheet_factory_entered() -> Vec<u8> {
     bytes[44] = 2;
     bytes
 }
+
+/// Pen, whose long mode has this task, is left by this switch, and stands beside
+/// a module with this task.
+pub fn sheet_pen(long: &str, switch: &str, beside: &str) -> Vec<u8> {
+    sheet(&format!(
+        "HZ 12
+         ML 2 MD 12 {long} {switch}
+              MD 2 TK 0 1 1 2 SW 0 2
+         ML 1 MD 6 {beside}
+         EN 11"
+    ))
+}
+
+/// Pen with a long mode that SW can leave every 4 ticks, since its task does
+/// its work every 4 ticks.
+pub fn sheet_leave_by_sw() -> Vec<u8> {
+    sheet_pen("TK 0 3 4 4", "SW 1 4", "TK 0 2 6 6")
+}
+
+/// Pen with a long mode that SX can leave every 4 ticks; its task has period 12.
+pub fn sheet_leave_by_sx() -> Vec<u8> {
+    sheet_pen("TK 0 3 4 12", "SX 1 4", "TK 0 2 6 6")
+}
+
+/// The same beside more work.
+pub fn sheet_leave_by_sx_over() -> Vec<u8> {
+    sheet_pen("TK 0 3 4 12", "SX 1 4", "TK 0 3 6 6")
+}

@@ -2,6 +2,7 @@
 
 use crate::sheets::{
     sheet, sheet_a, sheet_b, sheet_f, sheet_factory, sheet_factory_entered, sheet_g, sheet_h,
+    sheet_leave_by_sw, sheet_leave_by_sx, sheet_leave_by_sx_over, sheet_pen,
 };
 use tyvasuri::{Counts, Exact, Fault, Memory, Quick, Refusal, Sheet};
 
@@ -37,20 +38,27 @@ fn check_verdicts(
     assert_eq!(found, over.map(|(start, end, demand, tapes)| (start, end, demand, tapes.to_vec())));
 }
 
+/// Checks the lines that are printed.
+fn check_lines(bytes: &[u8], lines: &[&str]) {
+    let mut memory = Memory::new();
+    let printed = Sheet::judge(bytes).unwrap().report_in(&mut memory);
+    assert_eq!(printed.lines().collect::<Vec<_>>(), lines);
+    assert!(printed.ends_with('\n'));
+}
+
 #[test]
 fn case_a_as_printed() {
     let hex = |pair| u8::from_str_radix(pair, 16).unwrap();
     let bytes: Vec<u8> = PRINTED_A.split_whitespace().map(hex).collect();
     assert_eq!(bytes, sheet_a());
-    let sheet = Sheet::judge(&bytes).unwrap();
-    assert_eq!(
-        sheet.report_in(&mut Memory::new()),
-        "sheet modules 2 modes 3 tasks 3 switches 1 horizon 8\n\
-         quick over 3 demand 4\n\
-         exact over 4 7 demand 4\n\
-         run 0 0000000\n\
-         run 1 0000111\n"
-    );
+    let lines = [
+        "sheet modules 2 modes 3 tasks 3 switches 1 horizon 8",
+        "quick over 3 demand 4",
+        "exact over 4 7 demand 4",
+        "run 0 0000000",
+        "run 1 0000111",
+    ];
+    check_lines(&bytes, &lines);
 }
 
 #[test]
@@ -182,4 +190,53 @@ fn factory_mode_that_is_entered() {
     assert_eq!(first_over(sheet.quick_test_in(&mut memory)), Some((4, 6)));
     // No run has come to it and had an instance due by tick 8.
     assert!(sheet.exact_test_in(&mut memory).is_clear());
+}
+
+/// The first line that is printed for every sheet of pen.
+const PEN: &str = "sheet modules 2 modes 3 tasks 3 switches 2 horizon 12";
+
+/// Request k: for SW to leave pen's long mode every 4 ticks, its work is to be
+/// done every 4 ticks, which is too much.
+#[test]
+fn leave_by_sw() {
+    let bytes = sheet_leave_by_sw();
+    check_verdicts(&bytes, Some((12, 13)), Some((0, 12, 13, &[&[0; 12], &[0; 12]])));
+    let over = ["quick over 12 demand 13", "exact over 0 12 demand 13"];
+    let runs = ["run 0 000000000000", "run 1 000000000000"];
+    check_lines(&bytes, &[&[PEN], &over[..], &runs].concat());
+}
+
+/// SX leaves it at tick 4, with a task of period 12.
+#[test]
+fn leave_by_sx() {
+    let bytes = sheet_leave_by_sx();
+    check_verdicts(&bytes, None, None);
+    check_lines(&bytes, &[PEN, "quick clear", "exact clear"]);
+    let sheet = Sheet::judge(&bytes).unwrap();
+    let mut memory = Memory::new();
+    let mut demand = |time, length| sheet.state_demand_in(0, 0, time, length, &mut memory);
+    // It leaves at tick 4, comes back at 6 and leaves at 10: 3, 1, 3 and 1.
+    assert_eq!([demand(0, 4), demand(0, 5), demand(0, 12)], [Ok(3), Ok(4), Ok(8)]);
+    // At mode time 5 the next multiple is 8, three ticks on.
+    assert_eq!([demand(5, 3), demand(5, 4), demand(5, 6)], [Ok(0), Ok(1), Ok(2)]);
+}
+
+/// Beside more work pen is over where SX leaves its long mode inside the period.
+#[test]
+fn leave_by_sx_over() {
+    let bytes = sheet_leave_by_sx_over();
+    check_verdicts(&bytes, Some((6, 7)), Some((0, 6, 7, &[&[0, 0, 0, 0, 1, 1], &[0; 6]])));
+    let over = ["quick over 6 demand 7", "exact over 0 6 demand 7"];
+    check_lines(&bytes, &[&[PEN], &over[..], &["run 0 000011", "run 1 000000"]].concat());
+}
+
+/// No SW leaves it there: with 4 it is refused, and with 12 every run stays to
+/// the period's end, as with an SX at 12.
+#[test]
+fn no_sw_leaves_where_sx_does() {
+    let by_sw = |switch| sheet_pen("TK 0 3 4 12", switch, "TK 0 3 6 6");
+    let refusal = Sheet::judge(&by_sw("SW 1 4")).unwrap_err();
+    assert_eq!(refusal, Refusal::new(Fault::BadSwitch, 22));
+    check_verdicts(&by_sw("SW 1 12"), Some((6, 7)), None);
+    check_verdicts(&by_sw("SX 1 12"), Some((6, 7)), None);
 }

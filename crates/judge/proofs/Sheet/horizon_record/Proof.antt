@@ -21,14 +21,14 @@ refused-requires c κs = search needs
 
 returns : tie.Need-returns
 unfolding counted ruled
-returns c = λ rs h. rw (← c .before .before .before .field .ensures) (out-of-rule _ _ rs HZ (hz (c .before .before .before .field .result)) refl (said-no (c .before .before .is-between .ensures) (c .before .if1 .taken)) (c .refused .ensures))
+returns c = λ rs h. rw (← c .before .before .before .field .ensures) (out-of-rule _ _ _ rs HZ (hz (c .before .before .before .field .result)) refl (said-no (c .before .before .is-between .ensures) (c .before .if1 .taken)) (c .refused .ensures))
 
 past-requires : tie.Need-past-requires
 past-requires c κs = search needs
 
 returns-2 : tie.Need-returns-2
 unfolding counted ruled
-returns-2 c = λ rs h. rw (← c .before .before .before .field .ensures) (all-right _ _ rs HZ (hz (c .before .before .before .field .result)) refl (said-yes (c .before .before .is-between .ensures) (c .before .if1 .left)) h (c .before .before .before .before .before .pre .within .going) tt (c .past .ensures))
+returns-2 c = λ rs h. rw (← c .before .before .before .field .ensures) (all-right _ _ _ rs _ (hz (c .before .before .before .field .result)) refl (c .before .before .before .before .before .pre) refl (said-yes (c .before .before .is-between .ensures) (c .before .if1 .left)) h tt (c .past .ensures))
 
 pub horizon-record-spec : {M : Type 1} → statement M
 horizon-record-spec =

@@ -27,17 +27,17 @@ enum-told-4 c = search needs
 task-record-requires : tie.Need-task-record-requires
 task-record-requires c κs = rw (c .enum-told4 .given .1) at (c .before .before .before .pre)
 
+enum-known-m : tie.Need-enum-known-m
+enum-known-m c = search needs
+
+switch-record-requires : tie.Need-switch-record-requires
+switch-record-requires c κs = rw (c .before .m .given .1) at (c .before .before .before .before .pre)
+
 enum-told-5 : tie.Need-enum-told-5
 enum-told-5 c = search needs
 
-switch-record-requires : tie.Need-switch-record-requires
-switch-record-requires c κs = rw (c .enum-told5 .given .1) at (c .before .before .before .pre)
-
-enum-told-6 : tie.Need-enum-told-6
-enum-told-6 c = search needs
-
 end-record-requires : tie.Need-end-record-requires
-end-record-requires c κs = rw (c .enum-told6 .given .1) at (c .before .before .before .pre)
+end-record-requires c κs = rw (c .enum-told5 .given .1) at (c .before .before .before .pre)
 
 returns : tie.Need-returns
 returns c = rw (c .before .enum-told .given .1) (c .horizon-record .ensures)
@@ -52,10 +52,10 @@ returns-4 : tie.Need-returns-4
 returns-4 c = rw (c .before .enum-told4 .given .1) (c .task-record .ensures)
 
 returns-5 : tie.Need-returns-5
-returns-5 c = rw (c .before .enum-told5 .given .1) (c .switch-record .ensures)
+returns-5 c = rw (c .before .before .m .given .1) (c .switch-record .ensures)
 
 returns-6 : tie.Need-returns-6
-returns-6 c = rw (c .before .enum-told6 .given .1) (c .end-record .ensures)
+returns-6 c = rw (c .before .enum-told5 .given .1) (c .end-record .ensures)
 
 pub judge-fields-spec : {M : Type 1} → statement M
 judge-fields-spec =
@@ -69,9 +69,9 @@ judge-fields-spec =
     mode-record-requires
     enum-told-4
     task-record-requires
-    enum-told-5
+    enum-known-m
     switch-record-requires
-    enum-told-6
+    enum-told-5
     end-record-requires
     returns
     returns-2

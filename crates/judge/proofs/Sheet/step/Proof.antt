@@ -65,7 +65,7 @@ returns-4 : tie.Need-returns-4
 returns-4 c = λ rs h. out-of-order _ _ _ rs _ (is-whole (c .before .before .before)) h (said-no (c .before .before .in-order .ensures) (c .before .if3 .taken)) (c .refused4 .ensures)
 
 judge-fields-requires : tie.Need-judge-fields-requires
-judge-fields-requires c κs = record { within = c .before .before .before .before .before .before .before .before .before .before .pre; fits = is-whole (c .before .before) .fits }
+judge-fields-requires c κs = record { within = c .before .before .before .before .before .before .before .before .before .before .pre; order = said-yes (c .before .in-order .ensures) (c .if3 .left); fits = is-whole (c .before .before) .fits }
 
 returns-5 : tie.Need-returns-5
 returns-5 c = λ rs h. in-order _ _ _ rs _ (is-whole (c .before .before .before)) h (said-yes (c .before .before .in-order .ensures) (c .before .if3 .left)) (c .judge-fields .ensures rs h)

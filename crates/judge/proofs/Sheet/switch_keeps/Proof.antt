@@ -2,6 +2,7 @@
 use borrow.Author.Needs.{needs}
 use borrow.Author.Tests.{le-ltb, lt-ltb, eq-eqb, ne-eqb, not-true, not-false}
 use Rattle.judge.specs.Reading.{switchKept}
+use Rattle.judge.proofs.Turns.{said-yes, divisor-least}
 use Rattle.judge.proofs.Sheet.switch_keeps.Statement.{statement}
 use Rattle.judge.proofs.Sheet.switch_keeps.Tie as tie
 
@@ -33,12 +34,12 @@ returns-4 : tie.Need-returns-4
 unfolding switchKept
 returns-4 c = rw (lt-ltb _ _ (c .before .before .before .before .before .before .before .if1 .left), ne-eqb _ _ (c .before .before .before .before .before .if2 .left), c .before .before .if3 .left, ← c .before .is-divisor .ensures, not-true (c .before .is-divisor .result) (c .if4 .taken))
 
-spans-tasks-requires : tie.Need-spans-tasks-requires
-spans-tasks-requires c κs = search needs
+tasks-allow-requires : tie.Need-tasks-allow-requires
+tasks-allow-requires c κs = (divisor-least _ _ (said-yes (c .before .is-divisor .ensures) (c .if4 .left)), c .before .before .before .before .before .before .before .before .before .before .pre .0)
 
 returns-5 : tie.Need-returns-5
 unfolding switchKept
-returns-5 c = rw (lt-ltb _ _ (c .before .before .before .before .before .before .before .before .if1 .left), ne-eqb _ _ (c .before .before .before .before .before .before .if2 .left), c .before .before .before .if3 .left, ← c .before .before .is-divisor .ensures, not-false (c .before .before .is-divisor .result) (c .before .if4 .left)) (c .spans-tasks .ensures)
+returns-5 c = rw (lt-ltb _ _ (c .before .before .before .before .before .before .before .before .if1 .left), ne-eqb _ _ (c .before .before .before .before .before .before .if2 .left), c .before .before .before .if3 .left, ← c .before .before .is-divisor .ensures, not-false (c .before .before .is-divisor .result) (c .before .if4 .left)) (c .tasks-allow .ensures)
 
 pub switch-keeps-spec : {M : Type 1} → statement M
 switch-keeps-spec =
@@ -52,5 +53,5 @@ switch-keeps-spec =
     returns-3
     is-divisor-requires
     returns-4
-    spans-tasks-requires
+    tasks-allow-requires
     returns-5)
