@@ -9,6 +9,7 @@ use borrow.Author.Tests.{le-leb, ltb-true, lt-ltb, eqb-true, eq-eqb, not-true}
 use Rattle.model.specs.Lists.{anyBelow}
 use Rattle.model.specs.Sheet.{Task, Kind, SW, SX}
 use Rattle.model.specs.WellFormed.{TaskRule, Splits, Multiple, KindRule}
+use Rattle.model.proofs.Division.{div-mono}
 use Rattle.model.proofs.Lists.{anyBelow-some, some-anyBelow}
 use Rattle.model.proofs.Splitting.{split-rest, rest-split}
 use Rattle.format.specs.Rules.{splits, kindRuled}
@@ -22,7 +23,7 @@ module _ (period p : ℕ) (least : 1 ≤ p) where
   number-of x m =
       let whole : x / p * p ≡ x = omega (arith, div-add-mod' x p, m .whole) in
       let some : 1 ≤ x / p = le-div-iff-mul-le least .1 (omega (arith, le-of-dvd (m .positive) (dvd-of-mod-eq-zero p (m .whole)))) in
-      let most : x / p ≤ period / p = le-div-iff-mul-le least .1 (rw whole (m .most)) in
+      let most : x / p ≤ period / p = div-mono p x period least (m .most) in
       let next : suc (x / p - 1) ≡ x / p = omega arith in
       (x / p - 1, omega arith, rw next whole)
 

@@ -3,12 +3,13 @@
 -- remainders of divisors of the period turn along. Assumes nothing.
 use mathlib.Core.Path.{_≡_, sym, ap, _∙_}
 use Prim.Native.Nat.{ℕ, _+_, _-_, _*_, _/_, _%_, _≤_, _<_}
-use native.Mathlib.Nat.{le-antisymm, zero-add, zero-mod, mod-lt, mod-eq-of-lt, mod-add-mod, add-mod-right, add-mul-mod-self-left, div-add-mod, dvd-of-mod-eq-zero, mod-mod-of-dvd}
+use native.Mathlib.Nat.{le-antisymm, zero-add, zero-mod, mod-lt, mod-eq-of-lt, mod-add-mod, add-mod-right, add-mul-mod-self-left, div-add-mod}
 use native.Mathlib.Decide.{decLt, ℕ-discrete}
 use native.Mathlib.Omega.{arith}
 use lib.Dec.{eqb}
 use borrow.Author.Tests.{lt-ltb, le-ltb, eq-eqb, ne-eqb}
 use Rattle.model.specs.Lists.{maxBelow}
+use Rattle.model.proofs.Division.{rest-of}
 use Rattle.model.proofs.Lists.{le-maxBelow, maxBelow-le}
 use Rattle.layers.specs.Layer.{next}
 
@@ -64,15 +65,12 @@ turn-cancel q a c n pos e = sym (turn-off q a n pos) ∙ turn-same q (a + n) (c 
 
 -- a position of a part whose period q divides leaves what the turned mode time leaves
 module _ (p q : ℕ) (pos : 1 ≤ q) (divides : p % q ≡ 0) where
-  turn-mod : (a : ℕ) → a % p % q ≡ a % q
-  turn-mod a = mod-mod-of-dvd q a (dvd-of-mod-eq-zero q divides)
-
   turn-test : (a c n : ℕ) → eqb ((a + n) % p % q) ((c + n) % q) ≡ eqb (a % q) (c % q)
   turn-test a c n = pick (ℕ-discrete (a % q) (c % q))
     where
       pick : Dec (a % q ≡ c % q) → eqb ((a + n) % p % q) ((c + n) % q) ≡ eqb (a % q) (c % q)
-      pick (yes e) = eq-eqb _ _ (turn-mod (a + n) ∙ turn-same q a c n e) ∙ sym (eq-eqb _ _ e)
-      pick (no e) = ne-eqb _ _ (λ same. e (turn-cancel q a c n pos (sym (turn-mod (a + n)) ∙ same))) ∙ sym (ne-eqb _ _ e)
+      pick (yes e) = eq-eqb _ _ (rest-of (a + n) p q divides ∙ turn-same q a c n e) ∙ sym (eq-eqb _ _ e)
+      pick (no e) = ne-eqb _ _ (λ same. e (turn-cancel q a c n pos (sym (rest-of (a + n) p q divides) ∙ same))) ∙ sym (ne-eqb _ _ e)
 
   -- a switch of period q is open one tick after mode time d
   pub turn-open : (d n : ℕ) → eqb ((d + (n + 1)) % p % q) (n % q) ≡ eqb ((d + 1) % q) 0

@@ -1,9 +1,9 @@
 -- A greater number has no smaller quotient; and the quotient of t less an offset, rounded up, grows from t to t + 1 by one exactly where t
--- divided by the period leaves the offset. Assumes nothing.
+-- divided by the period leaves the offset; and rests by divisors of a divisor. Assumes nothing.
 use mathlib.Core.Path.{_≡_, refl}
 use mathlib.Core.Bool.{Bool, true, false}
 use Prim.Native.Nat.{ℕ, suc, _+_, _-_, _*_, _/_, _%_, _≤_, _<_}
-use native.Mathlib.Nat.{add-mul, one-mul, le-trans, mod-lt, div-add-mod', div-mul-le-self, le-div-iff-mul-le, div-eq-of-lt-le}
+use native.Mathlib.Nat.{add-mul, one-mul, le-trans, mod-lt, div-add-mod', div-mul-le-self, le-div-iff-mul-le, div-eq-of-lt-le, dvd-of-mod-eq-zero, mod-mod-of-dvd}
 use native.Mathlib.Decide.{decLt}
 use native.Mathlib.Omega.{arith}
 use lib.Dec.{eqb}
@@ -29,3 +29,7 @@ rounded-up-step T o t h = pick (t / T) (div-add-mod' t T) (mod-lt t (omega arith
     pick q e l false c (no d) =
         let r : t % T ≡ o → ⊥ = eqb-false _ _ c in
         omega (arith, rounded-up T o (suc q) t h (omega arith) (omega arith), rounded-up T o (suc q) (suc t) h (omega arith) (omega arith))
+
+-- what a number leaves, divided by p, leaves what the number leaves, divided by a divisor of p
+pub rest-of : (x p q : ℕ) → p % q ≡ 0 → x % p % q ≡ x % q
+rest-of x p q divides = mod-mod-of-dvd q x (dvd-of-mod-eq-zero q divides)

@@ -2,18 +2,15 @@
 use mathlib.Core.Path.{_≡_, sym, _∙_, ap}
 use mathlib.Core.List.{List·Memᴰ}
 use Prim.Native.Nat.{ℕ, _+_, _-_, _*_, _/_, _%_, _≤_, _<_}
-use native.Mathlib.Nat.{mod-lt, mod-le, mod-eq-of-lt, mod-add-mod, mod-add-div, add-mul-mod-self-left, zero-mod, dvd-of-mod-eq-zero, mod-mod-of-dvd}
+use native.Mathlib.Nat.{mod-lt, mod-le, mod-eq-of-lt, mod-add-mod, mod-add-div, add-mul-mod-self-left, zero-mod}
 use native.Mathlib.Decide.{decLt}
 use native.Mathlib.Omega.{arith}
 use Rattle.model.specs.Sheet.{Task, Kind, SW, SX, Switch, Module}
 use Rattle.model.specs.WellFormed.{TaskRule, Splits, Multiple, KindRule, ModuleRule}
 use Rattle.model.specs.Run.{modeAt}
+use Rattle.model.proofs.Division.{rest-of}
 use Rattle.model.proofs.Lists.{all-mem}
 use Rattle.model.proofs.Runs.{rule-at, task-rule, switch-rule}
-
--- what a number leaves, divided by a divisor of the number's divisor, is what its rest leaves
-rest-of : (x p q : ℕ) → p % q ≡ 0 → x % p % q ≡ x % q
-rest-of x p q divides = mod-mod-of-dvd q x (dvd-of-mod-eq-zero q divides)
 
 -- a multiple of a multiple is one
 multiple-of : (x p q : ℕ) → x % p ≡ 0 → p % q ≡ 0 → x % q ≡ 0
