@@ -1,5 +1,7 @@
 // Bounds of the sums over all intervals of a length that end in a range of ends: of each module the largest demand of that length, or of a shorter
 // one, that ends anywhere in the range.
+#![tactic(auto)]
+
 ghost use Rattle.std.specs.Prelude.{◌≡◌, ℕ, ◌+◌, ◌*◌, ◌/◌, ◌<◌, ◌≤◌, length};
 ghost use Rattle.model.specs.Limits.{work_numbers};
 ghost use Rattle.format.specs.Judgement.{sheet_in, Accepted};

@@ -1,4 +1,6 @@
 // The cells of a tile of ends, and the first of them that exceeds its length.
+#![tactic(auto)]
+
 ghost use Rattle.std.specs.Prelude.{◌≡◌, ℕ, ◌+◌, ◌≤◌, ◌<◌, length};
 ghost use Rattle.model.specs.Lists.{when};
 ghost use Rattle.model.specs.Limits.{work_numbers};
@@ -8,7 +10,7 @@ ghost use Rattle.cells.specs.Cells.{in_question, rows, Longest, Tile, Holding, C
 use memory::{CELL_NUMBERS, CELLS_FROM, WORK_NUMBERS};
 
 // Whether an interval of the tile is over: the first one found, with its sum.
-#[derive(Drop)]
+#[derive(Clone, Copy)]
 pub enum Found {
     Clear,
     At { start: u16, end: u16, sum: u32 },

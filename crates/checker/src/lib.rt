@@ -1,5 +1,7 @@
-// The C boundary: each call's answer as one number of 64 bits. The lowest byte is the kind: 0 answered, 255 over, else the refusal number.
+// What the C boundary answers: each call's answer as one number of 64 bits. The lowest byte is the kind: 0 answered, 255 over, else the refusal number.
 // Above it stands a refusal's place, or the figures.
+#![tactic(auto)]
+
 ghost use Rattle.std.specs.Prelude.{◌≡◌, List, ℕ, ◌<◌, ◌≤◌};
 ghost use Rattle.model.specs.Limits.{max_bytes};
 ghost use Rattle.format.specs.Judgement.{judgement};
@@ -84,8 +86,7 @@ fn report_number(answer: Report) -> u64
 }
 
 /// The judgement of a sheet: where it is accepted, its modules, modes, tasks, switches and horizon, in 8, 8, 16, 8 and 16 bits.
-#[unsafe(no_mangle)]
-pub extern "C" fn tyvasuri_judge(sheet: &[u8]) -> u64
+pub fn tyvasuri_judge(sheet: &[u8]) -> u64
     ensures { result ≡ judged_number (judgement sheet.now) }
 {
     let judged = judge::judge(sheet);
@@ -102,8 +103,7 @@ pub extern "C" fn tyvasuri_judge(sheet: &[u8]) -> u64
 }
 
 /// The demand of a mode between two mode times.
-#[unsafe(no_mangle)]
-pub extern "C" fn tyvasuri_mode_demand(
+pub fn tyvasuri_mode_demand(
     sheet: &[u8],
     module: usize,
     mode: usize,
@@ -116,8 +116,7 @@ pub extern "C" fn tyvasuri_mode_demand(
 }
 
 /// The largest demand in so many ticks over all runs from the mode time of the mode.
-#[unsafe(no_mangle)]
-pub extern "C" fn tyvasuri_state_demand(
+pub fn tyvasuri_state_demand(
     sheet: &[u8],
     module: usize,
     mode: usize,
@@ -131,8 +130,7 @@ pub extern "C" fn tyvasuri_state_demand(
 }
 
 /// The largest demand in so many ticks over all runs of the module, from any state of a mode that is reached from mode 0.
-#[unsafe(no_mangle)]
-pub extern "C" fn tyvasuri_module_demand(
+pub fn tyvasuri_module_demand(
     sheet: &[u8],
     module: usize,
     length: usize,
@@ -144,24 +142,21 @@ pub extern "C" fn tyvasuri_module_demand(
 }
 
 /// The quick test: where it is over, the smallest such length in 16 bits, and its demand.
-#[unsafe(no_mangle)]
-pub extern "C" fn tyvasuri_quick_test(sheet: &[u8], work: &mut [u32]) -> u64
+pub fn tyvasuri_quick_test(sheet: &[u8], work: &mut [u32]) -> u64
     ensures { Numbered quick_number (Worked (QuickAnswer sheet.now) work.old work.new) result }
 {
     quick_number(quick::quick_test(sheet, work))
 }
 
 /// The exact test: where it is over, the start and the end of the first such interval in 16 bits each, and its demand; its tapes lie in the tape memory.
-#[unsafe(no_mangle)]
-pub extern "C" fn tyvasuri_exact_test(sheet: &[u8], work: &mut [u32], tape: &mut [u8]) -> u64
+pub fn tyvasuri_exact_test(sheet: &[u8], work: &mut [u32], tape: &mut [u8]) -> u64
     ensures { Numbered (exact_of sheet.now tape.new) (ExactTested sheet.now work.old work.new tape.old tape.new) result }
 {
     exact_number(exact::exact_test(sheet, work, tape))
 }
 
 /// The report: how many bytes of the output memory it takes, from its beginning.
-#[unsafe(no_mangle)]
-pub extern "C" fn tyvasuri_report(
+pub fn tyvasuri_report(
     sheet: &[u8],
     work: &mut [u32],
     tape: &mut [u8],

@@ -1,4 +1,6 @@
 // What a mode of a sheet demands between two of its mode times, counted from the four numbers of each task.
+#![tactic(auto)]
+
 ghost use Rattle.std.specs.Prelude.{◌≡◌, ℕ, length};
 ghost use Rattle.model.specs.Sheet.{module_at};
 ghost use Rattle.model.specs.Run.{mode_at};
@@ -14,13 +16,13 @@ use judge::{Judged, OUT_OF_RANGE};
 use place::Task;
 
 // The demand that is asked for, or the refusal's number and place.
-#[derive(Drop)]
+#[derive(Clone, Copy)]
 pub enum Demand {
     Refused { number: u8, place: usize },
     Given(Amount),
 }
 
-#[derive(Drop)]
+#[derive(Clone, Copy)]
 pub struct Amount {
     pub demand: u32,
 }

@@ -1,4 +1,6 @@
 // A module that numbers tell, with some modes made idle: period 1, no tasks, no switches.
+#![tactic(auto)]
+
 ghost use Rattle.std.specs.Prelude.{◌≡◌, false, cond, ◌&&◌, ℕ, ◌+◌, ◌/◌, ◌≤◌, ◌<◌, length, get_or};
 ghost use Rattle.std.proofs.Math.Seq.{paste};
 ghost use Rattle.model.specs.Emptied.{emptied};

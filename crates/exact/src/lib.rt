@@ -1,4 +1,6 @@
 // The exact test: the first interval whose sum exceeds its length over runs from tick 0, and the tapes that show it.
+#![tactic(auto)]
+
 ghost use Rattle.std.specs.Prelude.{◌≡◌, ◌&&◌, ◌*◌, ◌≤◌, leb, length as count};
 ghost use Rattle.model.specs.Limits.{work_numbers};
 ghost use Rattle.query.specs.Query.{exact_terms};
@@ -10,7 +12,7 @@ use cells::Found;
 use judge::{Judged, MEMORY_TOO_SMALL, Sheet};
 
 /// What the exact test says: the refusal's number and place, clear, or over.
-#[derive(Drop)]
+#[derive(Clone, Copy)]
 pub enum Exact {
     Refused { number: u8, place: usize },
     Clear,
@@ -18,7 +20,7 @@ pub enum Exact {
 }
 
 /// The first interval whose sum exceeds its length, and that sum.
-#[derive(Drop)]
+#[derive(Clone, Copy)]
 pub struct Interval {
     pub start: u16,
     pub end: u16,
@@ -26,7 +28,7 @@ pub struct Interval {
 }
 
 // Whether a call is refused before it is answered; else the sheet's modules and its horizon.
-#[derive(Drop)]
+#[derive(Clone, Copy)]
 enum Asked {
     Refused { number: u8, place: usize },
     Sound { modules: usize, horizon: usize },

@@ -35,6 +35,7 @@ abbrev TaskAt : List ℕ → Task → Type 0
 TaskAt tasks k = (j : ℕ) × (j < length tasks / 4) × (look tasks (4 * j) ≡ k.offset) × (look tasks (4 * j + 2) ≡ k.LET) × (look tasks (4 * j + 3) ≡ k.period)
 
 task_at_lem : (k : Task) (ks : List Task) → Memᴰ k ks → TaskAt (task_numbers ks) k
+task_at_lem k mathlib.Core.List.[] x' = elim x' [ ]
 task_at_lem k (x ∷ ks) (Memᴰ.head e) = rw e (0, omega arith, refl, refl, refl)
 task_at_lem k (x ∷ ks) (Memᴰ.tail i) =
     let r = task_at_lem k ks i in

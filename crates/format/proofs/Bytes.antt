@@ -1,5 +1,5 @@
 -- Bytes and records: the records read at the front of the bytes are those bytes, and records that pass their tests are read back from their own bytes, whatever comes after. Assumes nothing.
-use mathlib.Core.Path.{◌≡◌, refl, ◌∙◌, ap}
+use mathlib.Core.Path.{◌≡◌, refl, ◌∙◌, ap, subst, sym}
 use mathlib.Core.Bool.{Bool, true, false, cond}
 use mathlib.Core.Option.{Option, none, some}
 use mathlib.Core.List.{List, [], ◌∷◌, ◌++◌, append-nil, append_assoc, reverse, reverse-cons}
@@ -188,7 +188,10 @@ pub front_of : (rs : List Record) → AllSound rs → (more : List ℕ) → Fron
 front_of [] s more = tt
 front_of (r ∷ rs) s more =
     let bs : List ℕ = joined record_bytes (reverse rs) in
-    rw (joined_reverse_cons record_bytes r rs, append_assoc bs (record_bytes r) more) (
+    let e : joined record_bytes (reverse (r ∷ rs)) ++ more ≡ bs ++ (record_bytes r ++ more) =
+    rw (joined_reverse_cons record_bytes r rs, append_assoc bs (record_bytes r) more)
+    in
+    subst (λ (all : List ℕ). Front all (r ∷ rs)) (sym e) (
       front_of rs s.0 (record_bytes r ++ more),
       s.1,
       rw (length_joined rs) at (whole_after bs r more),

@@ -1,4 +1,6 @@
 // What the writer of one module's tape looks up: what a state gains, and the heads of the modes at each tick, from the end of the interval back.
+#![tactic(auto)]
+
 ghost use Rattle.std.specs.Prelude.{◌≡◌, List, ℕ, ◌+◌, ◌*◌, ◌/◌, ◌%◌, ◌<◌, ◌≤◌, length, set};
 ghost use Rattle.model.specs.Limits.{work_numbers};
 ghost use Rattle.model.specs.Run.{at, gain};

@@ -1,4 +1,6 @@
 // Judges the bytes of a timing sheet, record by record from the front.
+#![tactic(auto)]
+
 ghost use Rattle.std.specs.Prelude.{◌≡◌, List, [], ℕ, ◌+◌, ◌*◌, ◌≤◌, length};
 ghost use Rattle.model.specs.Limits.{max_modes, max_bytes};
 ghost use Rattle.format.specs.Record.{HZ, ML, MD, TK, switch, EN, sw, size, mark_coded, mark_at, record_at};
@@ -11,7 +13,7 @@ ghost use Rattle.judge.specs.Reading.{kind_of, marked, found, switch_of, order_k
 use place::Task;
 
 // The judgement of a sheet.
-#[derive(Drop)]
+#[derive(Clone, Copy)]
 pub enum Judged {
     Refused {
         number: u8,
@@ -27,13 +29,13 @@ pub enum Judged {
 }
 
 // The kind of a switch.
-#[derive(Drop)]
+#[derive(Clone, Copy)]
 enum Kind {
     Sw,
     Sx,
 }
 
-#[derive(Drop)]
+#[derive(Clone, Copy)]
 enum Mark {
     Hz,
     Ml,
@@ -45,7 +47,7 @@ enum Mark {
 }
 
 // A switch, with the fields of SW and SX.
-#[derive(Drop)]
+#[derive(Clone, Copy)]
 struct Switch {
     kind: Kind,
     target: u16,
@@ -53,21 +55,21 @@ struct Switch {
 }
 
 // What the two bytes of a mark say.
-#[derive(Drop)]
+#[derive(Clone, Copy)]
 enum Found {
     Listed(Mark),
     Unlisted,
 }
 
 // The outcome of one record's tests.
-#[derive(Drop)]
+#[derive(Clone, Copy)]
 enum Test {
     Sound,
     Fault { number: u8, place: usize },
 }
 
 // One record judged: the outcome, and what has been read where it is sound.
-#[derive(Drop)]
+#[derive(Clone, Copy)]
 struct Turn {
     test: Test,
     next: Sheet,
@@ -232,7 +234,7 @@ fn kind_keeps(mode: u16, w: Switch, k: Task) -> bool
 }
 
 // What has been read so far.
-#[derive(Drop)]
+#[derive(Clone, Copy)]
 pub struct Sheet {
     // Where the next record begins.
     at: usize,

@@ -1,11 +1,13 @@
 // The layers of a module: for each of its states the largest demand in so many ticks, one length after the other.
+#![tactic(auto)]
+
 ghost use Rattle.std.specs.Prelude.{◌≡◌, true, false, ℕ, ◌+◌, ◌*◌, ◌/◌, ◌%◌, ◌^◌, ◌<◌, ◌≤◌, min, max, length, get_or};
 ghost use Rattle.model.specs.Lists.{max_below};
 ghost use Rattle.layers.specs.Step.{look, total, period, Moved, raised, added, offer_of, due_at, offered, gained, stepped, step_at, Stepped, Cleared, TasksReady, Ready};
 ghost use Rattle.layers.specs.Layer.{IsLayer, Advanced, Steppable, SteppedBy};
 
 // What a module is to the engine, beside its tasks.
-#[derive(Drop)]
+#[derive(Clone, Copy)]
 pub struct Shape {
     pub modes: usize,
     // of mode k at k
@@ -18,7 +20,7 @@ pub struct Shape {
 }
 
 /// A module's shape, and its tasks as numbers.
-#[derive(Drop)]
+#[derive(Clone, Copy)]
 pub struct Engine {
     pub shape: Shape,
     pub numbers: [u16; 512],

@@ -1,1 +1,2 @@
 // What the program prints. This crate holds the definition (specs/) and its laws (proofs/).
+#![tactic(auto)]

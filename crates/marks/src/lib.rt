@@ -1,4 +1,6 @@
 // At which ticks the modes of a module can be begun.
+#![tactic(auto)]
+
 ghost use Rattle.std.specs.Prelude.{◌≡◌, true, false, List, ℕ, ◌+◌, ◌-◌, ◌≤◌, ◌<◌, max, length};
 ghost use Rattle.memory.specs.Map.{mark_row_ticks, mark_numbers};
 ghost use Rattle.layers.specs.Step.{period, lists, every};

@@ -1,4 +1,5 @@
 // The map of the lent working memory, in numbers of 32 bits: how many are lent, and where each part begins.
+#![tactic(auto)]
 
 pub const WORK_NUMBERS: usize = 16384;
 

@@ -1,1 +1,2 @@
 // What a timing sheet means. This crate holds the definitions (specs/) and their laws (proofs/).
+#![tactic(auto)]

@@ -1,4 +1,6 @@
 // One module of an accepted sheet, as the engine reads it.
+#![tactic(auto)]
+
 ghost use Rattle.std.specs.Prelude.{◌<◌, length};
 ghost use Rattle.model.specs.Sheet.{module_at};
 ghost use Rattle.model.specs.Emptied.{reached_part};

@@ -1,4 +1,6 @@
 // Reads the bytes of a sheet: fields and tasks at a place, and where the modules and modes of an accepted sheet stand.
+#![tactic(auto)]
+
 ghost use Rattle.std.specs.Prelude.{◌≡◌, ℕ, ◌+◌, ◌*◌, ◌<◌, ◌≤◌, length, get_or};
 ghost use Rattle.model.specs.Sheet.{module_at};
 ghost use Rattle.model.specs.Run.{mode_at};
@@ -27,7 +29,7 @@ pub fn field(sheet: &[u8], i: usize) -> u16
 }
 
 /// The numbers of a task; LET is called due.
-#[derive(Drop)]
+#[derive(Clone, Copy)]
 pub struct Task {
     pub offset: u16,
     pub cost: u16,

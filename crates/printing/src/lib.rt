@@ -1,4 +1,6 @@
 // What the program prints for the bytes of a sheet: its report, or the line that says why it is refused.
+#![tactic(auto)]
+
 ghost use Rattle.printing.specs.Printed.{Printed, Counted};
 ghost use Rattle.printing.specs.Refusing.{Refusing};
 

@@ -9,7 +9,6 @@ use Rattle.model.specs.WellFormed.{ModuleRule, WellFormed}
 use Rattle.model.specs.Run.{at, mode_at}
 use Rattle.model.specs.Demand.{ModeDemand, StateDemand, ModuleDemand, mode_demand, value, module_demand}
 use Rattle.model.specs.Verdict.{Quick, Exact, clear, over, QuickIs, quick, exact}
-use Rattle.model.specs.Tape.{tapes}
 use Rattle.model.proofs.Lists.{all_at}
 use Rattle.model.proofs.Demands.{state_demand, module_demand_lem, state_demand_unique, module_demand_unique}
 use Rattle.model.proofs.ModeDemands.{mode_demand_lem, mode_demand_unique}

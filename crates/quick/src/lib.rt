@@ -1,4 +1,6 @@
 // The quick test: whether the sum of the modules' demands exceeds a length, and which length first.
+#![tactic(auto)]
+
 ghost use Rattle.std.specs.Prelude.{◌≡◌, ◌<◌, ◌≤◌, length as count};
 ghost use Rattle.model.specs.Limits.{work_numbers};
 ghost use Rattle.format.specs.Judgement.{sheet_in, Accepted};
@@ -15,7 +17,7 @@ use sums::Over;
 use table::ModuleRow;
 
 /// What the quick test says: the refusal's number and place, clear, or over.
-#[derive(Drop)]
+#[derive(Clone, Copy)]
 pub enum Quick {
     Refused { number: u8, place: usize },
     Clear,
@@ -23,14 +25,14 @@ pub enum Quick {
 }
 
 /// The smallest length whose sum exceeds it, and that sum.
-#[derive(Drop)]
+#[derive(Clone, Copy)]
 pub struct Excess {
     pub length: u16,
     pub demand: u32,
 }
 
 // Whether a call is refused before it is answered; else the sheet's modules and its horizon.
-#[derive(Drop)]
+#[derive(Clone, Copy)]
 enum Asked {
     Refused { number: u8, place: usize },
     Sound { modules: usize, horizon: usize },

@@ -1,4 +1,6 @@
 // Which modes of a module are reached: mode 0, and what a reached mode lists, round by round.
+#![tactic(auto)]
+
 ghost use Rattle.std.specs.Prelude.{◌≡◌, List, ℕ, ◌<◌, ◌≤◌};
 ghost use Rattle.layers.specs.Layer.{Tells};
 ghost use Rattle.reach.specs.Names.{in_round, Names, NamesReached};

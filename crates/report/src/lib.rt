@@ -1,4 +1,6 @@
 // The report on a sheet: the lines that the program prints, in the caller's memory.
+#![tactic(auto)]
+
 ghost use Rattle.std.specs.Prelude.{◌≡◌, ◌&&◌, ◌*◌, ◌≤◌, leb, length as count};
 ghost use Rattle.model.specs.Limits.{work_numbers};
 ghost use Rattle.model.specs.Verdict.{quick as quickVerdict};
@@ -19,14 +21,14 @@ use judge::{Judged, MEMORY_TOO_SMALL};
 use quick::Quick;
 
 /// What a report answers: the refusal's number and place, or how many bytes are written.
-#[derive(Drop)]
+#[derive(Clone, Copy)]
 pub enum Report {
     Refused { number: u8, place: usize },
     Written { count: usize },
 }
 
 // Whether a report is refused before it is written; else the sheet's counts and its horizon.
-#[derive(Drop)]
+#[derive(Clone, Copy)]
 enum Asked {
     Refused {
         number: u8,

@@ -1,4 +1,6 @@
 // The first interval up to the horizon that is over: the ends in ranges, a range in tiles, and in each tile the sums over all modules.
+#![tactic(auto)]
+
 ghost use Rattle.std.specs.Prelude.{◌≡◌, pred, ◌+◌, ◌≤◌, ◌<◌, length};
 ghost use Rattle.model.specs.Limits.{work_numbers};
 ghost use Rattle.model.specs.Verdict.{exact_from, exact_sum, exact};

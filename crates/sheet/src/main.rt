@@ -1,9 +1,13 @@
 // Reads a sheet from standard input, at most one byte more than the longest one has, and prints its report, or why it is refused.
-ghost use Rattle.std.specs.Prelude.{◌≡◌, ◌+◌, length};
+#![tactic(auto)]
+
+ghost use Rattle.std.specs.Prelude.{◌≡◌, ◌+◌, ◌≤◌, length, IfOk};
 ghost use Rattle.model.specs.Limits.{max_bytes};
 
 use judge::Sheet;
 use report::Report;
+use std::io;
+use std::io::{Read, Write};
 
 // Room for one byte more than the longest sheet has, so that a longer input is refused.
 fn room() -> [u8; Sheet::MAX_BYTES + 1]
@@ -12,14 +16,30 @@ fn room() -> [u8; Sheet::MAX_BYTES + 1]
     [0u8; Sheet::MAX_BYTES + 1]
 }
 
-fn main() {
+// Reads until the room is full or the input ends: how many bytes it has put there.
+fn read_full<R: Read>(from: &mut R, room: &mut [u8]) -> io::Result<usize>
+    ensures { IfOk result (λ n. n ≤ length room.new) }
+{
+    let mut n = 0;
+    while n < room.len() {
+        let more = from.read(&mut room[n..])?;
+        if more == 0 {
+            break;
+        }
+        n += more;
+    }
+    Ok(n)
+}
+
+fn main(rt: HostRuntime) -> io::Result<()> {
     let mut bytes = room();
     let mut work = [0u32; Sheet::WORK_NUMBERS];
     let mut tape = [0u8; printing::TAPE_BYTES];
     let mut out = [0u8; report::OUT_BYTES];
-    let n = io::read_full(0, &mut bytes);
+    let n = read_full(&mut rt.reader(), &mut bytes)?;
     let lines = printing::put_lines(&bytes[..n], &mut work, &mut tape, &mut out);
     if let Report::Written { count } = lines {
-        io::write_all(1, &out[..count]);
+        io::writer(&rt).write_all(&out[..count])?;
     }
+    Ok(())
 }

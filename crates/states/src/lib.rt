@@ -1,4 +1,6 @@
 // The largest demand of a module in so many ticks: from one of its states, and from any of a reached mode.
+#![tactic(auto)]
+
 ghost use Rattle.std.specs.Prelude.{◌≡◌, ◌<◌, leb, length as count};
 ghost use Rattle.model.specs.Sheet.{module_at};
 ghost use Rattle.model.specs.Limits.{work_numbers};
@@ -15,7 +17,7 @@ use layers::Engine;
 use memory::LAYER_NUMBERS;
 
 // Whether a call is refused before it is answered.
-#[derive(Drop)]
+#[derive(Clone, Copy)]
 enum Asked {
     Refused { number: u8, place: usize },
     Sound,

@@ -1,4 +1,6 @@
 // The largest demands of one module that numbers tell, from one state and from any, and a row of sums of these, one for each length.
+#![tactic(auto)]
+
 ghost use Rattle.std.specs.Prelude.{◌≡◌, ◌+◌, ◌*◌, ◌<◌, ◌≤◌, length};
 ghost use Rattle.model.specs.Limits.{work_numbers};
 ghost use Rattle.model.specs.Sheet.{Module};
@@ -15,7 +17,7 @@ use layers::Shape;
 use memory::{LAYER_FROM, MARKS_FROM};
 
 // Whether a sum exceeds its length: the first length that has one, with its sum.
-#[derive(Drop)]
+#[derive(Clone, Copy)]
 pub enum Over {
     Clear,
     At { length: u16, sum: u32 },

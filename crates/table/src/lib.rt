@@ -1,4 +1,6 @@
 // What the modules of an accepted sheet say, by value: periods, switches and tasks.
+#![tactic(auto)]
+
 ghost use Rattle.std.specs.Prelude.{◌≡◌, false, ℕ, ◌+◌, ◌<◌, ◌≤◌, length};
 ghost use Rattle.model.specs.Sheet.{module_at, named};
 ghost use Rattle.model.specs.Run.{mode_at};
@@ -10,7 +12,7 @@ ghost use Rattle.table.specs.Numbers.{start_of, number_at, TasksOf, Written};
 
 /// A module's tasks: those of the mode j are the numbers from starts[j] to starts[j + 1],
 /// four for each task (offset, cost, LET, period); past the last task stands 0.
-#[derive(Drop)]
+#[derive(Clone, Copy)]
 pub struct Tasks {
     pub starts: [u16; 9],
     pub numbers: [u16; 512],
@@ -18,7 +20,7 @@ pub struct Tasks {
 
 /// The row of a module: the periods of its modes, 0 past them; and at 8 * j + t of the switch of the mode j to the mode t its period and whether there is one,
 /// 0 and false where there is none.
-#[derive(Drop)]
+#[derive(Clone, Copy)]
 pub struct ModuleRow {
     pub periods: [u16; 8],
     pub every: [u16; 64],

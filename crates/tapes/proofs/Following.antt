@@ -88,7 +88,7 @@ module _ (s : Shape) (numbers : List ℕ) (a b : ℕ) (tells : Tells s numbers) 
 
     module _ (y : State) (goes : (m : Module) (n : List ℕ) → ModuleRule m → Told m s n → (u : Moment) → Next m (the x) u → u.mode ≡ to → the y ≡ u) where
       is_chosen : Each s numbers (λ m. the y ≡ chosen (value m (a - (t + 1)) (b - (t + 1))) (the x) (nexts m (the x)))
-      is_chosen m ok told = goes m numbers ok told _ (chosen_next m ok (the x) (is_listed m ok told) _) (sym (is-mode m ok told))
+      is_chosen m ok told = goes m numbers ok told _ (chosen_next m ok (the x) (is_listed m ok told) (value m (a - (t + 1)) (b - (t + 1)))) (sym (is-mode m ok told))
 
       still_within : Within s y
       still_within =

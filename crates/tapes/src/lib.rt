@@ -1,4 +1,6 @@
 // The writer of one module's tape: from its first tick on, by the heads of the modes at each tick.
+#![tactic(auto)]
+
 ghost use Rattle.std.specs.Prelude.{◌≡◌, true, ◌&&◌, List, ℕ, ◌+◌, ◌-◌, ◌%◌, ◌<◌, ◌≤◌, max, eqb, length};
 ghost use Rattle.model.specs.Lists.{when, max_of, max_below};
 ghost use Rattle.model.specs.Limits.{work_numbers};
@@ -17,14 +19,14 @@ ghost use Rattle.tapes.specs.Taped.{Taped};
 use layers::{Shape, smaller};
 
 // A state of a module: the mode and the mode time.
-#[derive(Drop)]
+#[derive(Clone, Copy)]
 pub struct State {
     pub mode: usize,
     pub time: usize,
 }
 
 // What a step to a mode answers: the state there, or that the mode is not open.
-#[derive(Drop)]
+#[derive(Clone, Copy)]
 pub enum Stepped {
     To(State),
     Closed,

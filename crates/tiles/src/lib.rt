@@ -1,4 +1,6 @@
 // One module's part in a tile of ends: its figures, length by length, are added to the cells of the lengths in question.
+#![tactic(auto)]
+
 ghost use Rattle.std.specs.Prelude.{◌≡◌, true, List, ℕ, pred, ◌+◌, ◌≤◌, ◌<◌, length};
 ghost use Rattle.model.specs.Limits.{work_numbers};
 ghost use Rattle.layers.specs.Layer.{Tells, Each};

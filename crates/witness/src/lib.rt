@@ -1,4 +1,6 @@
 // The witness of the exact test: the tapes of all modules, one after another in the tape memory.
+#![tactic(auto)]
+
 ghost use Rattle.std.specs.Prelude.{◌≡◌, ◌+◌, ◌*◌, ◌<◌, ◌≤◌, length};
 ghost use Rattle.model.specs.Limits.{max_horizon, work_numbers};
 ghost use Rattle.model.specs.Sheet.{module_at};

@@ -1,4 +1,6 @@
 // The writers of the lines that the program prints. Each writes into the caller's memory from a place on, and hands back the place behind its last byte.
+#![tactic(auto)]
+
 ghost use Rattle.std.specs.Prelude.{[], ◌∷◌, ◌++◌, map, ◌+◌, ◌≤◌, ◌<◌, length as count};
 ghost use Rattle.model.specs.Verdict.{Quick, Exact};
 ghost use Rattle.lines.specs.Decimal.{digit, decimal};

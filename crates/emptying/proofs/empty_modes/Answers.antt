@@ -1,0 +1,7 @@
+-- `empty_modes` tells the module in which each mode that is not kept is idle. Assumes nothing.
+use mathlib.Core.Path.{refl}
+use Rattle.emptying.proofs.Telling.{told_emptied}
+use Rattle.emptying.proofs.empty_modes.Goals as goal
+
+pub returns : goal.returns
+returns c = told_emptied c.args.shape _ c.args.numbers.now _ c.args.kept refl refl c.kept_periods-periods.ensures c.kept_switches-listed.ensures c.kept_tasks-starts.ensures

@@ -1,0 +1,23 @@
+-- The tasks of the mode end within the bytes, and the switches stand behind them. Assumes nothing.
+use mathlib.Core.List.{List}
+use Prim.Native.Nat.{ℕ}
+use native.Mathlib.Omega.{arith}
+use Rattle.place.proofs.Counting.{are_bytes, some_within}
+use Rattle.place.proofs.switches_from.Goals as goal
+
+pub overflow_add-result : goal.overflow_add-result
+overflow_add-result c = let bs : List ℕ = c.args.sheet.now in
+    omega (arith, some_within bs c.requires.accepted (are_bytes bs c.type_inv.sheet) c.args.p c.requires.some_mode)
+
+pub overflow_mul-result : goal.overflow_mul-result
+overflow_mul-result c = let bs : List ℕ = c.args.sheet.now in
+    let some = c.requires.some_mode in
+    omega (arith, c.tasks_at.ensures some.k some.j some.there, some_within bs c.requires.accepted (are_bytes bs c.type_inv.sheet) c.args.p some)
+
+pub overflow_add-result-2 : goal.overflow_add-result-2
+overflow_add-result-2 c = let bs : List ℕ = c.args.sheet.now in
+    let some = c.requires.some_mode in
+    omega (arith, c.tasks_at.ensures some.k some.j some.there, some_within bs c.requires.accepted (are_bytes bs c.type_inv.sheet) c.args.p some)
+
+pub returns : goal.returns
+returns c = λ k j h. omega (arith, c.tasks_at.ensures k j h)

@@ -1,0 +1,27 @@
+-- `quick_sums` goes through the modules; so far each sum is that of the modules behind. Assumes nothing.
+use Prim.Native.Nat.{◌-◌, ◌≤◌, ◌<◌}
+use native.Mathlib.Omega.{arith}
+use lib.ListN.{length}
+use borrow.Author.Rules.{rules}
+use Rattle.model.specs.WellFormed.{WellFormed}
+use Rattle.format.specs.Judgement.{sheet_in}
+use Rattle.format.proofs.RoundTrip.{accepted_well_formed}
+use Rattle.quick.proofs.Sums.{SumsTo, sums_start, sums_more, sums_fit, sums_end}
+use Rattle.quick.proofs.quick_sums.Goals as goal
+
+pub clear_sums-requires : goal.clear_sums-requires
+clear_sums-requires c = omega (arith, ((accepted_well_formed _ _ c.requires.accepted)).horizon_most, c.requires.n_bound, c.requires.work_numbers_bound)
+
+pub loop-k-init : goal.loop-k-init
+loop-k-init c = (sums_start _ _ _ _ c.clear_sums.ensures, omega arith)
+
+pub add_module-requires : goal.add_module-requires
+add_module-requires c = let done = c.loop-k.invariant.0 in
+    let number : c.loop-k.k < length (sheet_in c.args.sheet.now).modules = omega (arith, c.requires.modules_value) in
+    record { accepted = c.requires.accepted; k_bound = number; n_bound = c.requires.n_bound; rows_of = c.requires.rows_of; work_numbers_bound = (omega (arith, c.requires.work_numbers_bound, done.len, c.clear_sums.ensures.len), sums_fit _ _ ((accepted_well_formed _ _ c.requires.accepted)) c.requires.n_bound _ _ _ number done) }
+
+pub loop-k-preserved : goal.loop-k-preserved
+loop-k-preserved c = (sums_more _ _ _ _ _ _ (omega (arith, c.requires.modules_value)) c.loop-k.invariant.0 c.add_module.ensures, omega arith)
+
+pub returns : goal.returns
+returns c = sums_end _ _ ((accepted_well_formed _ _ c.requires.accepted)) c.requires.n_bound _ _ _ _ (omega (arith, c.requires.modules_value)) c.clear_sums.ensures c.loop-k.invariant.0

@@ -1,0 +1,15 @@
+use Prim.Native.Nat.{◌-◌, ◌≤◌, ◌<◌}
+use native.Mathlib.Omega.{arith}
+use lib.ListN.{length}
+use borrow.Author.Rules.{rules}
+use Rattle.model.specs.WellFormed.{WellFormed}
+use Rattle.format.specs.Judgement.{sheet_in}
+use Rattle.format.proofs.RoundTrip.{accepted_well_formed}
+use Rattle.quick.proofs.Sums.{SumsTo, sums_start, sums_more, sums_fit, sums_end}
+use Rattle.quick.proofs.quick_sums.Given as goal
+
+abbrev pub invariant-loop-k : goal.invariant-loop-k
+invariant-loop-k l = (SumsTo (sheet_in l.sheet) l.n l.k l.initial.work l.work) × (l.k ≤ l.modules)
+
+abbrev pub decreases-loop-k : goal.decreases-loop-k
+decreases-loop-k l = l.modules - l.k

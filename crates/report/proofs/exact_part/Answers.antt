@@ -1,0 +1,14 @@
+-- The exact test's terms are met, so that what it says is the exact verdict, and its tapes can be printed. Assumes nothing.
+use native.Mathlib.Omega.{arith}
+use borrow.Author.Rules.{rules}
+use Rattle.format.proofs.RoundTrip.{accepted_well_formed}
+use Rattle.report.proofs.Giving.{tested_printable, tested_lines}
+use Rattle.report.proofs.exact_part.Goals as goal
+
+pub exact_lines-requires : goal.exact_lines-requires
+exact_lines-requires c = let ok = accepted_well_formed _ _ c.requires.meets.accepted in
+    record { at_bound = c.requires.at_bound; modules_bound = (omega (arith, c.requires.modules_value, ok.modules_most), rw c.requires.modules_value (tested_printable c.requires.meets c.exact_test-exact.ensures)) }
+
+pub returns : goal.returns
+returns c = let tested = c.exact_test-exact.ensures in
+    record { verdict = _; tested = tested; put = rw (tested_lines c.requires.modules_value c.requires.meets tested) at c.exact_lines.ensures }

@@ -1,0 +1,16 @@
+use mathlib.Core.Path.{◌≡◌}
+use Prim.Native.Nat.{◌+◌, ◌-◌, ◌*◌, ◌≤◌, ◌<◌}
+use native.Mathlib.Nat.{zero-add, mul-le-mul_right, mul-le-mul}
+use native.Mathlib.Omega.{arith}
+use borrow.Author.Rules.{rules}
+use Rattle.query.specs.Memory.{tapes_in}
+use Rattle.lines.specs.Lines.{run_lines}
+use Rattle.writing.specs.Writing.{Put, OneDigitEach}
+use Rattle.report.proofs.Runs.{tape_at, run_room, run_more, runs_none}
+use Rattle.report.proofs.run_lines.Given as goal
+
+abbrev pub invariant-loop-k : goal.invariant-loop-k
+invariant-loop-k l = Put l.at l.next (run_lines 0 (tapes_in l.k l.end l.tape)) l.initial.out l.out × (l.k ≤ l.modules)
+
+abbrev pub decreases-loop-k : goal.decreases-loop-k
+decreases-loop-k l = l.modules - l.k

@@ -1,0 +1,29 @@
+-- `fill_tile` goes through the modules; so far each cell holds the sum over the modules behind. Assumes nothing.
+use mathlib.Core.Path.{◌≡◌}
+use Prim.Native.Nat.{pred, ◌+◌, ◌-◌, ◌≤◌, ◌<◌}
+use native.Mathlib.Omega.{arith}
+use lib.ListN.{length}
+use borrow.Author.Rules.{rules}
+use Rattle.format.specs.Judgement.{sheet_in}
+use Rattle.search.specs.Search.{Filled}
+use Rattle.tiles.proofs.Parts.{within_then}
+use Rattle.search.proofs.Filling.{kept_by_clearing, filled_none, filled_more, filled_all}
+use Rattle.search.proofs.Keeping.{tile_kept, longest_kept}
+use Rattle.search.proofs.fill_tile.Goals as goal
+
+pub loop-k-init : goal.loop-k-init
+loop-k-init c = let cleared = c.clear_cells.ensures in
+    (filled_none _ _ _ _ _ (tile_kept (kept_by_clearing cleared) c.requires.tile) cleared, omega arith)
+
+pub add_module-requires : goal.add_module-requires
+add_module-requires c = let done = c.loop-k.invariant.0 in
+    let number : c.loop-k.k < length (sheet_in c.args.sheet.now).modules = omega (arith, c.requires.modules_value) in
+    let kept = within_then (kept_by_clearing c.clear_cells.ensures) done.kept in
+    let last : pred (c.args.lo + c.args.width) ≡ c.args.lo + c.args.width - 1 = omega arith in
+    record { accepted = c.requires.accepted; k_in_bounds = number; rows_of = c.requires.rows_of; cells_of = (done.cells, tile_kept kept c.requires.tile, longest_kept kept last (omega (arith, c.requires.tile.ends)) c.longest-stop.ensures) }
+
+pub loop-k-preserved : goal.loop-k-preserved
+loop-k-preserved c = (filled_more c.loop-k.invariant.0 c.add_module.ensures, omega arith)
+
+pub returns : goal.returns
+returns c = filled_all c.loop-k.invariant.0 c.clear_cells.ensures (omega arith)

@@ -1,0 +1,14 @@
+use Prim.Native.Nat.{◌+◌, ◌-◌, ◌≤◌}
+use native.Mathlib.Omega.{arith}
+use borrow.Author.Rules.{rules}
+use Rattle.model.specs.Verdict.{exact_sum}
+use Rattle.format.proofs.RoundTrip.{accepted_well_formed}
+use Rattle.format.specs.Judgement.{sheet_in}
+use Rattle.search.proofs.Searching.{Behind, behind_none, behind_all, behind_over, behind_clear, searched_after, searched_all}
+use Rattle.search.proofs.search_ranges.Given as goal
+
+abbrev pub invariant-loop-lo : goal.invariant-loop-lo
+invariant-loop-lo l = (Behind (exact_sum (sheet_in l.sheet)) 0 1 l.horizon l.lo l.initial.work l.work) × (1 ≤ l.range)
+
+abbrev pub decreases-loop-lo : goal.decreases-loop-lo
+decreases-loop-lo l = l.horizon + 1 - l.lo

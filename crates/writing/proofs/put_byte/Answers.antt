@@ -1,0 +1,7 @@
+-- `put_byte` writes one byte. Assumes nothing.
+use borrow.Author.Rules.{rules}
+use Rattle.writing.proofs.Writing.{put_one}
+use Rattle.writing.proofs.put_byte.Goals as goal
+
+pub returns : goal.returns
+returns c = put_one _ _ _ c.requires
