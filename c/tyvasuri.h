@@ -1,8 +1,8 @@
 /*
  * A checker for timing sheets, for C programs.
  *
- * The functions are those of libchecker.a, which `rt staticlib checker` writes
- * to target/staticlib/ at the repository's root. They are proved to answer as
+ * The functions are those of libchecker.a, which `c/archive` writes to
+ * target/staticlib/ at the repository's root. They are proved to answer as
  * the build definition of the sheets (document 01) says, with the change
  * requests (document 02) that docs/CHANGES.md names, for any bytes and any
  * numbers.

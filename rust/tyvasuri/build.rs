@@ -1,12 +1,14 @@
 //! Finds the checker's archive, or has it made and proved, and links it.
 
-use std::io::ErrorKind;
 use std::path::{Path, PathBuf};
 use std::process::Command;
 use std::{env, fs};
 
 /// The variable that names an archive; it goes before the other ways.
 const NAMED: &str = "TYVASURI_ARCHIVE";
+
+/// The status by which a shell says that there is no such command, here `rt`.
+const NO_COMMAND: i32 = 127;
 
 /// An archive, and the paths whose change asks for another one.
 struct Found {
@@ -32,17 +34,25 @@ fn find() -> Result<Found, String> {
     let own = folder("CARGO_MANIFEST_DIR");
     let root = own.ancestors().nth(2).expect("the crate stands two folders below the root");
     let archive = root.join("target/staticlib/libchecker.a");
-    match Command::new("rt").args(["staticlib", "checker"]).current_dir(root).output() {
-        Ok(output) if output.status.success() => {
-            Ok(Found { archive, watched: vec![root.join("crates"), root.join("crates.txt")] })
+    match Command::new(root.join("c/archive")).output() {
+        Ok(output) if output.status.success() => Ok(Found { archive, watched: sources(root)? }),
+        Ok(output) if output.status.code() != Some(NO_COMMAND) => {
+            Err(not_made(&output.stdout, &output.stderr))
         }
-        Ok(output) => Err(not_made(&output.stdout, &output.stderr)),
-        Err(error) if error.kind() != ErrorKind::NotFound => {
-            Err(format!("`rt` cannot be started: {error}"))
-        }
-        Err(_) if archive.is_file() => Ok(as_it_stands(archive)),
-        Err(_) => Err(missing(&archive)),
+        Ok(_) if archive.is_file() => Ok(as_it_stands(archive)),
+        Ok(_) => Err(missing(&archive)),
+        Err(error) => Err(format!("`c/archive` cannot be started: {error}")),
     }
+}
+
+/// What `rt` reads of the crates; beside it stands what it makes.
+fn sources(root: &Path) -> Result<Vec<PathBuf>, String> {
+    let crates = fs::read_dir(root.join("crates"))
+        .map_err(|error| format!("the folder of the crates cannot be read: {error}"))?;
+    let parts = crates
+        .flatten()
+        .flat_map(|one| ["src", "specs", "proofs"].map(|part| one.path().join(part)));
+    Ok(parts.filter(|path| path.is_dir()).chain([root.join("crates.txt")]).collect())
 }
 
 /// An archive that this build did not make is itself what may change.
@@ -58,7 +68,7 @@ fn folder(variable: &str) -> PathBuf {
 /// Says why `rt` made no archive, in its own words.
 fn not_made(stdout: &[u8], stderr: &[u8]) -> String {
     let said = [stdout, stderr].map(String::from_utf8_lossy).concat();
-    format!("`rt staticlib checker` did not make the checker's archive. It said:\n{said}")
+    format!("`c/archive` did not make the checker's archive. It said:\n{said}")
 }
 
 /// Says what is missing, and the two ways to supply it.
@@ -71,7 +81,7 @@ fn missing(archive: &Path) -> String {
     )
 }
 
-/// Links a copy of the archive: `rt ci` removes the folder that the archive stands in.
+/// Links a copy of the archive, which a later build may make again.
 fn link(found: &Found) -> Result<(), String> {
     for path in &found.watched {
         println!("cargo::rerun-if-changed={}", path.display());

@@ -103,13 +103,7 @@ pub fn tyvasuri_judge(sheet: &[u8]) -> u64
 }
 
 /// The demand of a mode between two mode times.
-pub fn tyvasuri_mode_demand(
-    sheet: &[u8],
-    module: usize,
-    mode: usize,
-    from: usize,
-    to: usize,
-) -> u64
+pub fn tyvasuri_mode_demand(sheet: &[u8], module: usize, mode: usize, from: usize, to: usize) -> u64
     ensures { Numbered figure_number (ModeAnswer sheet.now «module» mode from to) result }
 {
     demand_number(demand::mode_demand(sheet, module, mode, from, to))
@@ -130,12 +124,7 @@ pub fn tyvasuri_state_demand(
 }
 
 /// The largest demand in so many ticks over all runs of the module, from any state of a mode that is reached from mode 0.
-pub fn tyvasuri_module_demand(
-    sheet: &[u8],
-    module: usize,
-    length: usize,
-    work: &mut [u32],
-) -> u64
+pub fn tyvasuri_module_demand(sheet: &[u8], module: usize, length: usize, work: &mut [u32]) -> u64
     ensures { Numbered figure_number (Worked (ModuleAnswer sheet.now «module» length) work.old work.new) result }
 {
     demand_number(states::module_demand(sheet, module, length, work))
@@ -156,12 +145,7 @@ pub fn tyvasuri_exact_test(sheet: &[u8], work: &mut [u32], tape: &mut [u8]) -> u
 }
 
 /// The report: how many bytes of the output memory it takes, from its beginning.
-pub fn tyvasuri_report(
-    sheet: &[u8],
-    work: &mut [u32],
-    tape: &mut [u8],
-    out: &mut [u8],
-) -> u64
+pub fn tyvasuri_report(sheet: &[u8], work: &mut [u32], tape: &mut [u8], out: &mut [u8]) -> u64
     ensures { Numbered (λ x. figure_number (reported x)) (Reported sheet.now work.old work.new tape.old tape.new out.old out.new) result }
 {
     report_number(report::write_report(sheet, work, tape, out))

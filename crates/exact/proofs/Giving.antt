@@ -10,7 +10,6 @@ use lib.ListN.{length}
 use borrow.Author.Tests.{leb-true}
 use Rattle.model.specs.Limits.{max_horizon, work_numbers}
 use Rattle.model.specs.Verdict as Verdict
-use Rattle.model.specs.Tape.{tapes}
 use Rattle.model.proofs.Verdicts.{exact_is}
 use Rattle.format.specs.Judgement.{sheet_in}
 use Rattle.format.proofs.RoundTrip.{accepted_well_formed}

@@ -46,8 +46,8 @@
 //! # Building
 //!
 //! The crate links the checker's archive, `libchecker.a`. Its build makes the
-//! archive by `rt staticlib checker`, which proves it first. Where there is no
-//! `rt`, it takes `target/staticlib/libchecker.a` as it stands. The variable
+//! archive by `c/archive`, which proves it first. Where there is no `rt`, it
+//! takes `target/staticlib/libchecker.a` as it stands. The variable
 //! `TYVASURI_ARCHIVE`, a whole path, names another archive and goes before both.
 
 #![deny(missing_docs)]

@@ -1,6 +1,5 @@
 -- `add_bounds` begins the module's part, and goes through the lengths from a bound of 0 for no tick on. Assumes nothing.
 use native.Mathlib.Omega.{arith}
-use borrow.Author.Rules.{rules}
 use Rattle.bounds.proofs.Adding.{fits_begun, bounds_begun}
 use Rattle.bounds.proofs.Bounding.{progress_start}
 use Rattle.bounds.proofs.add_bounds.Goals as goal

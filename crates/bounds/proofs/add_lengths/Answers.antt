@@ -1,9 +1,6 @@
 -- `add_lengths` goes through the lengths: so far the numbers up to l have their bounds, and the module has come to l ticks. Assumes nothing.
-use Prim.Native.Nat.{◌+◌, ◌-◌, ◌≤◌}
+use Prim.Native.Nat.{◌+◌}
 use native.Mathlib.Omega.{arith}
-use borrow.Author.Rules.{rules}
-use Rattle.layers.specs.Layer.{Each}
-use Rattle.bounds.specs.Bounds.{Progress, BoundsAdded}
 use Rattle.bounds.proofs.Adding.{bounds_start, bounds_more, bounds_at}
 use Rattle.bounds.proofs.add_lengths.Goals as goal
 

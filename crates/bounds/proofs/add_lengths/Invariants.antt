@@ -1,9 +1,6 @@
-use Prim.Native.Nat.{◌+◌, ◌-◌, ◌≤◌}
-use native.Mathlib.Omega.{arith}
-use borrow.Author.Rules.{rules}
+use Prim.Native.Nat.{◌-◌, ◌≤◌}
 use Rattle.layers.specs.Layer.{Each}
 use Rattle.bounds.specs.Bounds.{Progress, BoundsAdded}
-use Rattle.bounds.proofs.Adding.{bounds_start, bounds_more, bounds_at}
 use Rattle.bounds.proofs.add_lengths.Given as goal
 
 abbrev pub invariant-loop-l : goal.invariant-loop-l

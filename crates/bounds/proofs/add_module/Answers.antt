@@ -1,6 +1,5 @@
 -- The module that is told to the engine is the module k, and its bounds are what is added. Assumes nothing.
 use native.Mathlib.Omega.{arith}
-use borrow.Author.Rules.{rules}
 use Rattle.format.proofs.RoundTrip.{accepted_well_formed}
 use Rattle.format.specs.Judgement.{sheet_in}
 use Rattle.table.proofs.Reading.{row_of_module}

@@ -1,5 +1,4 @@
 -- `add_next` adds the bound to the number at its length, which is no part of the layer, and does not wrap. Assumes nothing.
-use borrow.Author.Rules.{rules}
 use Rattle.bounds.proofs.Adding.{next_fits, next_added}
 use Rattle.bounds.proofs.add_next.Goals as goal
 

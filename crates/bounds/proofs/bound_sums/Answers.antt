@@ -1,11 +1,10 @@
 -- `bound_sums` goes through the modules; so far no sum over the modules behind exceeds the number at its length. Assumes nothing.
-use Prim.Native.Nat.{◌-◌, ◌≤◌, ◌<◌}
+use Prim.Native.Nat.{◌<◌}
 use native.Mathlib.Omega.{arith}
 use lib.ListN.{length}
-use borrow.Author.Rules.{rules}
 use Rattle.format.proofs.RoundTrip.{accepted_well_formed}
 use Rattle.format.specs.Judgement.{sheet_in}
-use Rattle.bounds.proofs.Summing.{BoundedTo, bounded_start, bounded_more, bounded_fit, bounded_end}
+use Rattle.bounds.proofs.Summing.{bounded_start, bounded_more, bounded_fit, bounded_end}
 use Rattle.bounds.proofs.bound_sums.Goals as goal
 
 pub clear_sums-requires : goal.clear_sums-requires

@@ -1,10 +1,6 @@
-use Prim.Native.Nat.{◌-◌, ◌≤◌, ◌<◌}
-use native.Mathlib.Omega.{arith}
-use lib.ListN.{length}
-use borrow.Author.Rules.{rules}
-use Rattle.format.proofs.RoundTrip.{accepted_well_formed}
+use Prim.Native.Nat.{◌-◌, ◌≤◌}
 use Rattle.format.specs.Judgement.{sheet_in}
-use Rattle.bounds.proofs.Summing.{BoundedTo, bounded_start, bounded_more, bounded_fit, bounded_end}
+use Rattle.bounds.proofs.Summing.{BoundedTo}
 use Rattle.bounds.proofs.bound_sums.Given as goal
 
 abbrev pub invariant-loop-k : goal.invariant-loop-k

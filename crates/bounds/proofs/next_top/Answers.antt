@@ -1,6 +1,5 @@
 -- `next_top` takes the bound from the next layer and the marks, which stand as they stood. Assumes nothing.
 use native.Mathlib.Omega.{arith}
-use borrow.Author.Rules.{rules}
 use Rattle.sums.proofs.Sums.{is_layer}
 use Rattle.tiles.proofs.Steps.{next_layer}
 use Rattle.bounds.proofs.Bounding.{progressed}

@@ -1,6 +1,5 @@
 -- `top_mode` counts the tasks of one mode; a mode none of whose stays reaches the range offers nothing. Assumes nothing.
 use Rattle.bounds.proofs.Topping.{mode_none}
-use borrow.Author.Rules.{rules}
 use Rattle.bounds.proofs.top_mode.Goals as goal
 
 pub returns : goal.returns

@@ -1,20 +1,17 @@
 -- `top_module` goes through the modes: so far those before k. Assumes nothing.
 use Rattle.bounds.proofs.Topping.{mode_tops}
 use Rattle.bounds.proofs.Tops.{top_start, top_next, top_at}
-use Rattle.bounds.specs.Tops.{Topped}
-use Rattle.figures.specs.Offers.{Below, ShapeOffer}
 use Rattle.sums.proofs.Sums.{told_states}
 use Rattle.layers.proofs.Sums.{sum_more, sum_before}
 use Rattle.layers.proofs.Parts.{part_length}
 use Rattle.layers.proofs.Layers.{told_ready, told_room}
 use Rattle.layers.specs.declared.Shape.{Shape}
-use Rattle.layers.specs.Step.{look, total, period, ModeReady}
-use borrow.Author.Rules.{rules}
+use Rattle.layers.specs.Step.{look, period, ModeReady}
 use lib.ListN.{length}
 use native.Mathlib.Omega.{arith}
 use mathlib.Core.List.{List}
-use Prim.Native.Nat.{ℕ, ◌+◌, ◌-◌, ◌≤◌, ◌<◌}
-use mathlib.Core.Path.{◌≡◌, refl}
+use Prim.Native.Nat.{ℕ, ◌+◌, ◌≤◌, ◌<◌}
+use mathlib.Core.Path.{refl}
 use Rattle.bounds.proofs.top_module.Goals.{In-loop-k}
 use Rattle.bounds.proofs.top_module.Goals as goal
 

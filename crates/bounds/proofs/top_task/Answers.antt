@@ -1,7 +1,6 @@
 -- `top_task` counts the releases of one task, where its LET is at most l. Assumes nothing.
 use Prim.Native.Nat.{◌+◌, ◌*◌}
 use native.Mathlib.Omega.{arith}
-use borrow.Author.Rules.{rules}
 use Rattle.bounds.proofs.Topping.{task_due, task_late}
 use Rattle.bounds.proofs.top_task.Goals as goal
 

@@ -1,10 +1,5 @@
 -- `top_tasks` goes through the tasks of a mode: so far those before j. Assumes nothing.
-use Prim.Native.Nat.{◌-◌, ◌/◌, ◌≤◌}
 use native.Mathlib.Omega.{arith}
-use lib.ListN.{length}
-use borrow.Author.Rules.{rules}
-use Rattle.figures.specs.Offers.{Below, TaskOffer}
-use Rattle.bounds.specs.Tops.{Topped}
 use Rattle.bounds.proofs.Tops.{top_start, top_next, top_at}
 use Rattle.bounds.proofs.top_tasks.Goals as goal
 

@@ -1,10 +1,7 @@
 use Prim.Native.Nat.{◌-◌, ◌/◌, ◌≤◌}
-use native.Mathlib.Omega.{arith}
 use lib.ListN.{length}
-use borrow.Author.Rules.{rules}
 use Rattle.figures.specs.Offers.{Below, TaskOffer}
 use Rattle.bounds.specs.Tops.{Topped}
-use Rattle.bounds.proofs.Tops.{top_start, top_next, top_at}
 use Rattle.bounds.proofs.top_tasks.Given as goal
 
 abbrev pub invariant-loop-j : goal.invariant-loop-j

@@ -1,6 +1,5 @@
 -- `top_time` looks at the marks only where the number is larger than the best. Assumes nothing.
 use native.Mathlib.Omega.{arith}
-use borrow.Author.Rules.{rules}
 use Rattle.bounds.proofs.Topping.{tick_small, tick_none, tick_some}
 use Rattle.bounds.proofs.top_time.Goals as goal
 

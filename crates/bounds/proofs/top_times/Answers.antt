@@ -1,14 +1,10 @@
 -- `top_times` goes through the mode times that leave the offset: so far those before d, whose number stands at x. Assumes nothing.
 use Rattle.bounds.proofs.Topping.{times_start, times_more, times_end}
-use Rattle.bounds.specs.Tops.{Topped}
-use Rattle.figures.specs.Offers.{Below, TimeOffer}
 use Rattle.layers.proofs.Turns.{turn_on}
-use borrow.Author.Rules.{rules}
-use lib.ListN.{length}
 use native.Mathlib.Omega.{arith}
 use native.Mathlib.Nat.{mod-lt, mod-eq_of_lt, add-mod_right}
-use Prim.Native.Nat.{◌+◌, ◌-◌, ◌%◌}
-use mathlib.Core.Path.{◌≡◌, ◌∙◌}
+use Prim.Native.Nat.{◌+◌}
+use mathlib.Core.Path.{◌∙◌}
 use Rattle.bounds.proofs.top_times.Goals as goal
 
 pub loop-d-init : goal.loop-d-init

@@ -1,13 +1,8 @@
-use Rattle.bounds.proofs.Topping.{times_start, times_more, times_end}
 use Rattle.bounds.specs.Tops.{Topped}
 use Rattle.figures.specs.Offers.{Below, TimeOffer}
-use Rattle.layers.proofs.Turns.{turn_on}
-use borrow.Author.Rules.{rules}
 use lib.ListN.{length}
-use native.Mathlib.Omega.{arith}
-use native.Mathlib.Nat.{mod-lt, mod-eq_of_lt, add-mod_right}
 use Prim.Native.Nat.{◌+◌, ◌-◌, ◌%◌}
-use mathlib.Core.Path.{◌≡◌, ◌∙◌}
+use mathlib.Core.Path.{◌≡◌}
 use Rattle.bounds.proofs.top_times.Given as goal
 
 abbrev pub invariant-loop-d : goal.invariant-loop-d

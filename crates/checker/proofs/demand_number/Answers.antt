@@ -1,5 +1,4 @@
 -- A refusal has its own number, and a demand stands above the lowest byte. Assumes nothing.
-use borrow.Author.Rules.{rules}
 use Rattle.checker.proofs.demand_number.Goals as goal
 
 pub refused-requires : goal.refused-requires

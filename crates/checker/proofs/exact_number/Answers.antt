@@ -1,6 +1,5 @@
 -- A refusal has its own number, clear is 0, and over is 255 with the start, the end and the demand above it. Assumes nothing.
 use native.Mathlib.Omega.{arith}
-use borrow.Author.Rules.{rules}
 use Rattle.checker.proofs.exact_number.Goals as goal
 
 pub refused-requires : goal.refused-requires

@@ -1,5 +1,4 @@
 -- A refusal has its own number, clear is 0, and over is 255 with the length and the demand above it. Assumes nothing.
-use borrow.Author.Rules.{rules}
 use Rattle.checker.proofs.quick_number.Goals as goal
 
 pub refused-requires : goal.refused-requires

@@ -1,6 +1,5 @@
 -- A refusal has its own number, and the count stands above the lowest byte. Assumes nothing.
 use native.Mathlib.Omega.{arith}
-use borrow.Author.Rules.{rules}
 use Rattle.checker.proofs.report_number.Goals as goal
 
 pub refused-requires : goal.refused-requires

@@ -1,6 +1,5 @@
 -- A refusal has its own number; of an accepted sheet the modules, the modes and the switches fit a byte each. Assumes nothing.
 use native.Mathlib.Omega.{arith}
-use borrow.Author.Rules.{rules}
 use Rattle.format.proofs.RoundTrip.{accepted_well_formed}
 use Rattle.judge.proofs.JudgedLaws.{accepted_told, refused_told}
 use Rattle.checker.proofs.Bounds.{judged_refused, modes_most}

@@ -1,5 +1,4 @@
 -- The number is that of the mode demand, whose place, where it is refused, is in the longest sheet or at its end. Assumes nothing.
-use borrow.Author.Rules.{rules}
 use Rattle.query.specs.Query.{mode_terms}
 use Rattle.demand.specs.Demanded.{answer_of}
 use Rattle.checker.proofs.Bounds.{placed}

@@ -1,6 +1,5 @@
 -- The number is that of the module demand, whose place, where it is refused, is in the longest sheet or at its end. Assumes nothing.
 use lib.ListN.{length}
-use borrow.Author.Rules.{rules}
 use Rattle.query.specs.Query.{module_terms}
 use Rattle.demand.specs.Demanded.{answer_of}
 use Rattle.checker.proofs.Bounds.{placed}

@@ -1,6 +1,5 @@
 -- The number is that of what the quick test says, whose place, where it is refused, is in the longest sheet or at its end. Assumes nothing.
 use lib.ListN.{length}
-use borrow.Author.Rules.{rules}
 use Rattle.model.specs.Verdict.{QuickIs}
 use Rattle.query.specs.Query.{quick_terms}
 use Rattle.quick.specs.Quick.{answer_of}

@@ -1,6 +1,5 @@
 -- The number is that of the report: a refusal's place is in the longest sheet or at its end, and the output memory can hold the lines. Assumes nothing.
 use lib.ListN.{length}
-use borrow.Author.Rules.{rules}
 use Rattle.report.specs.Report.{answer_of}
 use Rattle.checker.proofs.Room.{report_held}
 use Rattle.checker.proofs.tyvasuri_report.Goals as goal

@@ -4,7 +4,6 @@ use mathlib.Core.List.{List}
 use Prim.Native.Nat.{ℕ, ◌+◌, ◌≤◌}
 use native.Mathlib.Omega.{arith}
 use lib.ListN.{length}
-use borrow.Author.Rules.{rules}
 use Rattle.model.specs.Sheet.{module_at}
 use Rattle.model.specs.Run.{mode_at}
 use Rattle.format.specs.Judgement.{sheet_in}

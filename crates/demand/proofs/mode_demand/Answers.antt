@@ -1,7 +1,6 @@
 -- The judgement is answered first, and of an accepted sheet its modules go on to the answer. Assumes nothing.
 use mathlib.Core.List.{List}
 use Prim.Native.Nat.{ℕ}
-use borrow.Author.Rules.{rules}
 use Rattle.judge.proofs.JudgedLaws.{accepted_told, refused_told}
 use Rattle.demand.proofs.Answers.{answer_refused}
 use Rattle.demand.proofs.mode_demand.Goals as goal

@@ -4,10 +4,9 @@ use mathlib.Core.List.{List}
 use Prim.Native.Nat.{ℕ}
 use native.Mathlib.Omega.{arith}
 use lib.ListN.{length}
-use borrow.Author.Rules.{rules}
 use Rattle.model.specs.Sheet.{module_at}
 use Rattle.format.specs.Judgement.{sheet_in}
-use Rattle.place.specs.There.{ModuleThere, ModesThere, ModeThere}
+use Rattle.place.specs.There.{ModesThere, ModeThere}
 use Rattle.demand.proofs.Answers.{no_module, no_mode}
 use Rattle.demand.proofs.sheet_answer.Goals.{After-mode_from, After-modes_at, Else-modes_at-mode}
 use Rattle.demand.proofs.sheet_answer.Goals as goal

@@ -1,6 +1,5 @@
 -- The instances, each at the cost of the task. Assumes nothing.
 use native.Mathlib.Omega.{arith}
-use borrow.Author.Rules.{rules}
 use Rattle.place.specs.Numbers.{task_of}
 use Rattle.demand.proofs.Tasks.{task_counted}
 use Rattle.demand.proofs.task_demand.Goals as goal

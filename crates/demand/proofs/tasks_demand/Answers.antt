@@ -1,11 +1,10 @@
 -- The sum over the tasks of the mode, of which there are at most 16. Assumes nothing.
 use mathlib.Core.List.{List}
-use Prim.Native.Nat.{ℕ, ◌-◌}
+use Prim.Native.Nat.{ℕ}
 use native.Mathlib.Omega.{arith}
-use borrow.Author.Rules.{rules}
 use Rattle.place.proofs.Counting.{are_bytes}
 use Rattle.place.specs.Numbers.{task_of}
-use Rattle.demand.proofs.Tasks.{Summed, task_within, task_countable, summed_none, sum_fits, summed_more, summed_all}
+use Rattle.demand.proofs.Tasks.{task_within, task_countable, summed_none, sum_fits, summed_more, summed_all}
 use Rattle.demand.proofs.tasks_demand.Goals as goal
 
 pub tasks_at-n-requires : goal.tasks_at-n-requires

@@ -1,6 +1,5 @@
 -- The sheet's fault goes before the memory; past both the terms are met, and the judge has told the modules and the horizon. Assumes nothing.
 use native.Mathlib.Omega.{arith}
-use borrow.Author.Rules.{rules}
 use Rattle.query.specs.Query.{exact_terms}
 use Rattle.query.proofs.Meeting.{fault_refused}
 use Rattle.format.proofs.RoundTrip.{accepted_well_formed}

@@ -2,7 +2,6 @@
 use mathlib.Core.Path.{sym, ◌∙◌, ap}
 use native.Mathlib.Omega.{arith}
 use lib.ListN.{length}
-use borrow.Author.Rules.{rules}
 use Rattle.model.specs.Limits.{work_numbers}
 use Rattle.cells.specs.Cells.{found_of}
 use Rattle.query.proofs.Meeting.{stays_by, stays_more}

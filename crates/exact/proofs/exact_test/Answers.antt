@@ -2,7 +2,6 @@
 use Rattle.query.specs.Query.{exact_terms, WitnessedIs, witnessed}
 use Rattle.query.proofs.Meeting.{refused_answered, stays_untouched}
 use lib.ListN.{length}
-use borrow.Author.Rules.{rules}
 use Rattle.exact.proofs.exact_test.Goals as goal
 
 pub exact_given-requires : goal.exact_given-requires

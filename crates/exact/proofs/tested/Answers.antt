@@ -1,6 +1,5 @@
 -- The call is sound exactly where the memory is enough. Assumes nothing.
 use mathlib.Core.Path.{sym, ◌∙◌}
-use borrow.Author.Rules.{rules}
 use Rattle.exact.proofs.tested.Goals as goal
 
 pub returns-then-is_enough : goal.returns-then-is_enough

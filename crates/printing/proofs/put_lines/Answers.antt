@@ -1,6 +1,5 @@
 -- A report that is written stays as it is; where it is refused, that is said, or its line is written. Assumes nothing.
 use Rattle.printing.proofs.Lines.{printed_counted, written_printed, refused_printed}
-use borrow.Author.Rules.{rules}
 use Rattle.printing.proofs.put_lines.Goals as goal
 
 pub returns-in-Refused : goal.returns-in-Refused

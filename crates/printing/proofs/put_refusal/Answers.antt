@@ -1,6 +1,5 @@
 -- Too little memory, or no room, is answered with the refusal and nothing is written; else the line is written. Assumes nothing.
 use native.Mathlib.Omega.{arith}
-use borrow.Author.Rules.{rules}
 use Rattle.printing.proofs.Lines.{refused_room, no_line, no_room, line_put}
 use Rattle.printing.proofs.put_refusal.Goals as goal
 

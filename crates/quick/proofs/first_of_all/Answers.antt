@@ -1,11 +1,7 @@
 -- `first_of_all` looks at more and more lengths: so far only the working memory has changed. Assumes nothing.
-use Rattle.model.specs.Limits.{work_numbers}
-use Rattle.query.specs.Memory.{Stays}
 use Rattle.query.proofs.Meeting.{stays_untouched, stays_more}
 use Rattle.quick.proofs.Pieces.{found_behind, found_early}
-use borrow.Author.Rules.{rules}
 use native.Mathlib.Omega.{arith}
-use Prim.Native.Nat.{◌-◌, ◌≤◌}
 use Rattle.quick.proofs.first_of_all.Goals as goal
 
 pub loop-n-init : goal.loop-n-init

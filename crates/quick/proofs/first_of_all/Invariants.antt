@@ -1,9 +1,5 @@
 use Rattle.model.specs.Limits.{work_numbers}
 use Rattle.query.specs.Memory.{Stays}
-use Rattle.query.proofs.Meeting.{stays_untouched, stays_more}
-use Rattle.quick.proofs.Pieces.{found_behind, found_early}
-use borrow.Author.Rules.{rules}
-use native.Mathlib.Omega.{arith}
 use Prim.Native.Nat.{◌-◌, ◌≤◌}
 use Rattle.quick.proofs.first_of_all.Given as goal
 

@@ -2,7 +2,6 @@
 use Rattle.quick.proofs.Pieces.{sums_found}
 use Rattle.format.proofs.RoundTrip.{accepted_well_formed}
 use native.Mathlib.Omega.{arith}
-use borrow.Author.Rules.{rules}
 use Rattle.quick.proofs.first_over.Goals as goal
 
 pub first_over-requires : goal.first_over-requires

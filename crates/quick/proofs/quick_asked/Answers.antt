@@ -1,6 +1,5 @@
 -- The sheet's fault goes before the memory; past both the terms are met, and the judge has told the modules and the horizon. Assumes nothing.
 use mathlib.Core.Path.{refl}
-use borrow.Author.Rules.{rules}
 use borrow.Author.Tests.{le-leb, lt-leb}
 use Rattle.model.specs.Limits.{work_numbers}
 use Rattle.query.specs.Query.{quick_terms}

@@ -1,7 +1,6 @@
 -- What is found up to the horizon is the verdict; only the working memory is written. Assumes nothing.
 use Rattle.quick.proofs.Giving.{sound_room, sound_horizon, quick_is}
 use lib.ListN.{length}
-use borrow.Author.Rules.{rules}
 use Rattle.quick.proofs.quick_given.Goals as goal
 
 pub first_of_all-requires : goal.first_of_all-requires

@@ -1,12 +1,10 @@
 -- `quick_sums` goes through the modules; so far each sum is that of the modules behind. Assumes nothing.
-use Prim.Native.Nat.{◌-◌, ◌≤◌, ◌<◌}
+use Prim.Native.Nat.{◌<◌}
 use native.Mathlib.Omega.{arith}
 use lib.ListN.{length}
-use borrow.Author.Rules.{rules}
-use Rattle.model.specs.WellFormed.{WellFormed}
 use Rattle.format.specs.Judgement.{sheet_in}
 use Rattle.format.proofs.RoundTrip.{accepted_well_formed}
-use Rattle.quick.proofs.Sums.{SumsTo, sums_start, sums_more, sums_fit, sums_end}
+use Rattle.quick.proofs.Sums.{sums_start, sums_more, sums_fit, sums_end}
 use Rattle.quick.proofs.quick_sums.Goals as goal
 
 pub clear_sums-requires : goal.clear_sums-requires

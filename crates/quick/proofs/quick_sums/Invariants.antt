@@ -1,11 +1,6 @@
-use Prim.Native.Nat.{◌-◌, ◌≤◌, ◌<◌}
-use native.Mathlib.Omega.{arith}
-use lib.ListN.{length}
-use borrow.Author.Rules.{rules}
-use Rattle.model.specs.WellFormed.{WellFormed}
+use Prim.Native.Nat.{◌-◌, ◌≤◌}
 use Rattle.format.specs.Judgement.{sheet_in}
-use Rattle.format.proofs.RoundTrip.{accepted_well_formed}
-use Rattle.quick.proofs.Sums.{SumsTo, sums_start, sums_more, sums_fit, sums_end}
+use Rattle.quick.proofs.Sums.{SumsTo}
 use Rattle.quick.proofs.quick_sums.Given as goal
 
 abbrev pub invariant-loop-k : goal.invariant-loop-k

@@ -1,6 +1,5 @@
 -- A call that is refused leaves the lent memory as it came; any other is given the verdict. Assumes nothing.
 use lib.ListN.{length}
-use borrow.Author.Rules.{rules}
 use Rattle.model.specs.Verdict.{QuickIs, quick}
 use Rattle.query.specs.Query.{quick_terms}
 use Rattle.query.proofs.Meeting.{refused_answered, stays_untouched}

@@ -1,5 +1,4 @@
 -- Clear is answered as clear, and a length with its sum as over. Assumes nothing.
-use borrow.Author.Rules.{rules}
 use Rattle.quick.proofs.verdict.Goals as goal
 
 pub returns-in-Clear : goal.returns-in-Clear

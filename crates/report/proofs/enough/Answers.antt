@@ -1,6 +1,5 @@
 -- What the exact test needs, and the output. Assumes nothing.
 use mathlib.Core.Path.{sym, ◌∙◌}
-use borrow.Author.Rules.{rules}
 use Rattle.report.proofs.enough.Goals as goal
 
 pub returns-then-is_enough : goal.returns-then-is_enough

@@ -1,6 +1,5 @@
 -- Each verdict has its line, and over the runs behind it; there is room for all. Assumes nothing.
 use native.Mathlib.Omega.{arith}
-use borrow.Author.Rules.{rules}
 use Rattle.writing.proofs.Writing.{put_none, put_more}
 use Rattle.writing.proofs.Lengths.{exact_clear_length}
 use Rattle.report.specs.Parts.{TapesThere}

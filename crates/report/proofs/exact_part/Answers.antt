@@ -1,6 +1,5 @@
 -- The exact test's terms are met, so that what it says is the exact verdict, and its tapes can be printed. Assumes nothing.
 use native.Mathlib.Omega.{arith}
-use borrow.Author.Rules.{rules}
 use Rattle.format.proofs.RoundTrip.{accepted_well_formed}
 use Rattle.report.proofs.Giving.{tested_printable, tested_lines}
 use Rattle.report.proofs.exact_part.Goals as goal

@@ -1,6 +1,5 @@
 -- The line of the sheet is short. Assumes nothing.
 use native.Mathlib.Omega.{arith}
-use borrow.Author.Rules.{rules}
 use Rattle.report.proofs.Room.{sheet_room}
 use Rattle.report.proofs.head_line.Goals as goal
 

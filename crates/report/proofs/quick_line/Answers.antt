@@ -1,6 +1,5 @@
 -- Each verdict has its line, and none is longer than there is room. Assumes nothing.
 use native.Mathlib.Omega.{arith}
-use borrow.Author.Rules.{rules}
 use Rattle.writing.proofs.Writing.{put_none}
 use Rattle.writing.proofs.Lengths.{quick_clear_length}
 use Rattle.report.proofs.Room.{quick_room, quick_fits}

@@ -1,6 +1,5 @@
 -- The quick test's terms are met, so that what it says is the quick verdict. Assumes nothing.
 use mathlib.Core.Path.{ap}
-use borrow.Author.Rules.{rules}
 use Rattle.lines.specs.Lines.{quick_line}
 use Rattle.report.specs.Parts.{said}
 use Rattle.report.proofs.Giving.{quick_said}

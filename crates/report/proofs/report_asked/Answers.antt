@@ -1,6 +1,5 @@
 -- The sheet's fault goes before the memory; past both the terms are met, and the judge has told the counts and the horizon. Assumes nothing.
 use native.Mathlib.Omega.{arith}
-use borrow.Author.Rules.{rules}
 use Rattle.query.proofs.Meeting.{fault_refused}
 use Rattle.format.proofs.RoundTrip.{accepted_well_formed}
 use Rattle.judge.proofs.JudgedLaws.{accepted_told, refused_told}

@@ -3,10 +3,7 @@ use mathlib.Core.Path.{◌≡◌}
 use Prim.Native.Nat.{◌+◌, ◌-◌, ◌*◌, ◌≤◌, ◌<◌}
 use native.Mathlib.Nat.{zero-add, mul-le-mul_right, mul-le-mul}
 use native.Mathlib.Omega.{arith}
-use borrow.Author.Rules.{rules}
-use Rattle.query.specs.Memory.{tapes_in}
-use Rattle.lines.specs.Lines.{run_lines}
-use Rattle.writing.specs.Writing.{Put, OneDigitEach}
+use Rattle.writing.specs.Writing.{OneDigitEach}
 use Rattle.report.proofs.Runs.{tape_at, run_room, run_more, runs_none}
 use Rattle.report.proofs.run_lines.Goals as goal
 

@@ -1,12 +1,7 @@
-use mathlib.Core.Path.{◌≡◌}
-use Prim.Native.Nat.{◌+◌, ◌-◌, ◌*◌, ◌≤◌, ◌<◌}
-use native.Mathlib.Nat.{zero-add, mul-le-mul_right, mul-le-mul}
-use native.Mathlib.Omega.{arith}
-use borrow.Author.Rules.{rules}
+use Prim.Native.Nat.{◌-◌, ◌≤◌}
 use Rattle.query.specs.Memory.{tapes_in}
 use Rattle.lines.specs.Lines.{run_lines}
-use Rattle.writing.specs.Writing.{Put, OneDigitEach}
-use Rattle.report.proofs.Runs.{tape_at, run_room, run_more, runs_none}
+use Rattle.writing.specs.Writing.{Put}
 use Rattle.report.proofs.run_lines.Given as goal
 
 abbrev pub invariant-loop-k : goal.invariant-loop-k

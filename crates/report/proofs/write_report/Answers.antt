@@ -1,7 +1,6 @@
 -- A call that is refused leaves all memory as it came; any other is given the lines. Assumes nothing.
 use Prim.Native.Nat.{ℕ}
 use lib.ListN.{length}
-use borrow.Author.Rules.{rules}
 use Rattle.model.specs.Sheet.{Sheet}
 use Rattle.query.proofs.Meeting.{refused_answered, stays_untouched}
 use Rattle.report.specs.Report.{report_terms, Lines}

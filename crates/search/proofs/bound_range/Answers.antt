@@ -1,6 +1,5 @@
 -- `bound_range` bounds the lengths up to the last end, but none past which no interval is over. Assumes nothing.
 use native.Mathlib.Omega.{arith}
-use borrow.Author.Rules.{rules}
 use Rattle.format.proofs.RoundTrip.{accepted_well_formed}
 use Rattle.format.specs.Judgement.{sheet_in}
 use Rattle.search.proofs.Bounding.{range_bounded}

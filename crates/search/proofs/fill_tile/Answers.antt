@@ -1,11 +1,9 @@
 -- `fill_tile` goes through the modules; so far each cell holds the sum over the modules behind. Assumes nothing.
 use mathlib.Core.Path.{◌≡◌}
-use Prim.Native.Nat.{pred, ◌+◌, ◌-◌, ◌≤◌, ◌<◌}
+use Prim.Native.Nat.{pred, ◌+◌, ◌-◌, ◌<◌}
 use native.Mathlib.Omega.{arith}
 use lib.ListN.{length}
-use borrow.Author.Rules.{rules}
 use Rattle.format.specs.Judgement.{sheet_in}
-use Rattle.search.specs.Search.{Filled}
 use Rattle.tiles.proofs.Parts.{within_then}
 use Rattle.search.proofs.Filling.{kept_by_clearing, filled_none, filled_more, filled_all}
 use Rattle.search.proofs.Keeping.{tile_kept, longest_kept}

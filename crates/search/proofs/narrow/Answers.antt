@@ -1,11 +1,7 @@
 -- `narrow` halves the range until eight tiles are enough; the bounds that are there then are those of the range. Assumes nothing.
-use Prim.Native.Nat.{◌≤◌}
 use native.Mathlib.Omega.{arith}
-use borrow.Author.Rules.{rules}
-use Rattle.model.specs.Limits.{work_numbers}
 use Rattle.format.proofs.RoundTrip.{accepted_well_formed}
 use Rattle.tiles.proofs.Parts.{within_none, within_then}
-use Rattle.tiles.specs.Tiles.{Within}
 use Rattle.search.proofs.narrow.Goals as goal
 
 pub loop-n-init : goal.loop-n-init

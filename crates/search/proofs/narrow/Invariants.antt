@@ -1,9 +1,5 @@
 use Prim.Native.Nat.{◌≤◌}
-use native.Mathlib.Omega.{arith}
-use borrow.Author.Rules.{rules}
 use Rattle.model.specs.Limits.{work_numbers}
-use Rattle.format.proofs.RoundTrip.{accepted_well_formed}
-use Rattle.tiles.proofs.Parts.{within_none, within_then}
 use Rattle.tiles.specs.Tiles.{Within}
 use Rattle.search.proofs.narrow.Given as goal
 

@@ -1,6 +1,5 @@
 -- `search` bounds the whole; the lengths that this leaves in question are searched in one range, or in several. Assumes nothing.
 use native.Mathlib.Omega.{arith}
-use borrow.Author.Rules.{rules}
 use Rattle.format.proofs.RoundTrip.{accepted_well_formed}
 use Rattle.format.specs.Judgement.{sheet_in}
 use Rattle.search.proofs.Searching.{searched_after, searched_all}

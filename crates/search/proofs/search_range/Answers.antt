@@ -1,13 +1,10 @@
 -- `search_range` passes the tiles in which no interval is over. Assumes nothing.
-use Prim.Native.Nat.{◌+◌, ◌-◌}
 use native.Mathlib.Omega.{arith}
-use borrow.Author.Rules.{rules}
 use Rattle.model.specs.Limits.{work_numbers}
-use Rattle.model.specs.Verdict.{exact_sum}
 use Rattle.format.specs.Judgement.{sheet_in}
 use Rattle.tiles.proofs.Parts.{within_none}
 use Rattle.memory.specs.Map.{layer_from}
-use Rattle.search.proofs.Searching.{Behind, range_clear, passed_part, behind_none, behind_all, behind_over, behind_clear}
+use Rattle.search.proofs.Searching.{range_clear, passed_part, behind_none, behind_all, behind_over, behind_clear}
 use Rattle.search.proofs.Keeping.{passed_kept}
 use Rattle.search.proofs.search_range.Goals as goal
 

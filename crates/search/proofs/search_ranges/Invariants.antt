@@ -1,10 +1,7 @@
 use Prim.Native.Nat.{◌+◌, ◌-◌, ◌≤◌}
-use native.Mathlib.Omega.{arith}
-use borrow.Author.Rules.{rules}
 use Rattle.model.specs.Verdict.{exact_sum}
-use Rattle.format.proofs.RoundTrip.{accepted_well_formed}
 use Rattle.format.specs.Judgement.{sheet_in}
-use Rattle.search.proofs.Searching.{Behind, behind_none, behind_all, behind_over, behind_clear, searched_after, searched_all}
+use Rattle.search.proofs.Searching.{Behind}
 use Rattle.search.proofs.search_ranges.Given as goal
 
 abbrev pub invariant-loop-lo : goal.invariant-loop-lo

@@ -1,5 +1,4 @@
 -- What is found in the cells of all modules is the first interval of the tile that is over. Assumes nothing.
-use borrow.Author.Rules.{rules}
 use Rattle.model.specs.Verdict.{exact_sum}
 use Rattle.format.specs.Judgement.{sheet_in}
 use Rattle.search.proofs.Searching.{holding}

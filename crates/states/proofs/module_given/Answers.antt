@@ -2,12 +2,11 @@
 use mathlib.Core.Path.{◌∙◌}
 use native.Mathlib.Omega.{arith}
 use lib.ListN.{length}
-use borrow.Author.Rules.{rules}
 use borrow.Rule.Slice.PartMut.{mid_len}
 use Rattle.model.proofs.Emptied.{reached_part_lem}
 use Rattle.memory.specs.Map.{layer_numbers}
 use Rattle.modules.proofs.Telling.{reached_rule, reached_tells}
-use Rattle.states.proofs.Giving.{InModule, in_module, module_is, stays_layer}
+use Rattle.states.proofs.Giving.{in_module, module_is, stays_layer}
 use Rattle.states.proofs.module_given.Goals as goal
 
 pub module_row-row-requires : goal.module_row-row-requires

@@ -4,7 +4,6 @@ use mathlib.Core.Path.{ap, ◌∙◌}
 use Prim.Native.Nat.{ℕ}
 use native.Mathlib.Omega.{arith}
 use lib.ListN.{get_or}
-use borrow.Author.Rules.{rules}
 use Rattle.format.specs.Record.{fields_of}
 use Rattle.place.proofs.Counting.{are_bytes}
 use Rattle.place.proofs.Standing.{mode_record, mode_within}

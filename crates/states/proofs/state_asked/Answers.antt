@@ -1,6 +1,5 @@
 -- The sheet's fault goes before the length and the state, and these before the memory. Assumes nothing.
 use mathlib.Core.Path.{refl}
-use borrow.Author.Rules.{rules}
 use Rattle.format.specs.Judgement.{sheet_in}
 use Rattle.query.specs.Query.{state_terms}
 use Rattle.states.proofs.Asking.{is_accepted, is_refused, asks_far, asks_near}

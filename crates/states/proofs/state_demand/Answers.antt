@@ -1,7 +1,6 @@
 -- A call that is refused leaves the lent memory as it came; any other is given the state demand. Assumes nothing.
 use Prim.Native.Nat.{ℕ}
 use lib.ListN.{length}
-use borrow.Author.Rules.{rules}
 use Rattle.model.specs.Sheet.{Sheet, module_at}
 use Rattle.model.specs.Run.{at}
 use Rattle.model.specs.Demand.{StateDemand}

@@ -1,11 +1,10 @@
 -- The number at the state's place in the layer is the state demand; only the layer's part of the lent memory is written. Assumes nothing.
 use native.Mathlib.Omega.{arith}
 use lib.ListN.{length}
-use borrow.Author.Rules.{rules}
 use borrow.Rule.Slice.PartMut.{mid_len}
 use Rattle.memory.specs.Map.{layer_numbers}
 use Rattle.modules.proofs.Telling.{rule, tells}
-use Rattle.states.proofs.Giving.{InState, in_state, state_is, stays_layer}
+use Rattle.states.proofs.Giving.{in_state, state_is, stays_layer}
 use Rattle.states.proofs.state_given.Goals as goal
 
 pub engine_at-engine-requires : goal.engine_at-engine-requires

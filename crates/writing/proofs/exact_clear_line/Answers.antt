@@ -1,5 +1,4 @@
 -- `exact_clear_line` writes the line of the exact test that says clear. Assumes nothing.
-use borrow.Author.Rules.{rules}
 use Rattle.lines.specs.Lines.{exact_line}
 use Rattle.writing.proofs.exact_clear_line.Goals as goal
 

@@ -1,6 +1,5 @@
 -- `exact_over_line` writes the line of the exact test that says over. Assumes nothing.
 use native.Mathlib.Omega.{arith}
-use borrow.Author.Rules.{rules}
 use lib.ListN.{length-append}
 use Rattle.lines.specs.Decimal.{decimal}
 use Rattle.lines.specs.Lines.{ascii, exact_line}

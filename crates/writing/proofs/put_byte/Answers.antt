@@ -1,5 +1,4 @@
 -- `put_byte` writes one byte. Assumes nothing.
-use borrow.Author.Rules.{rules}
 use Rattle.writing.proofs.Writing.{put_one}
 use Rattle.writing.proofs.put_byte.Goals as goal
 

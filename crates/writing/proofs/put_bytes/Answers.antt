@@ -1,10 +1,6 @@
 -- `put_bytes` writes byte by byte. Assumes nothing.
-use Prim.Native.Nat.{◌-◌, ◌≤◌}
 use mathlib.Core.Path.{refl}
 use native.Mathlib.Omega.{arith}
-use borrow.Author.Rules.{rules}
-use lib.ListN.{length, take}
-use Rattle.writing.specs.Writing.{Put}
 use Rattle.writing.proofs.Writing.{put_none, put_room, put_next, put_all}
 use Rattle.writing.proofs.put_bytes.Goals as goal
 

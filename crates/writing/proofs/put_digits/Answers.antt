@@ -1,12 +1,9 @@
 -- `put_digits` writes the digits of a tape byte by byte. Assumes nothing.
-use Prim.Native.Nat.{◌-◌, ◌≤◌}
 use mathlib.Core.List.{map}
 use native.Mathlib.Omega.{arith}
-use borrow.Author.Rules.{rules}
-use lib.ListN.{length, take, length-map, get_or-map}
+use lib.ListN.{length-map, get_or-map}
 use Rattle.model.proofs.Lists.{all_at}
 use Rattle.lines.specs.Decimal.{digit}
-use Rattle.writing.specs.Writing.{Put}
 use Rattle.writing.proofs.Writing.{put_none, put_room, put_next, put_all}
 use Rattle.writing.proofs.put_digits.Goals as goal
 

@@ -1,6 +1,5 @@
 -- `put_end` writes two words, each with its number, and ends the line. Assumes nothing.
 use native.Mathlib.Omega.{arith}
-use borrow.Author.Rules.{rules}
 use lib.ListN.{length-append}
 use Rattle.lines.specs.Decimal.{decimal}
 use Rattle.writing.proofs.Writing.{put_more, put_two}

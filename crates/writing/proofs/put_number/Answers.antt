@@ -1,6 +1,5 @@
 -- `put_number` writes a word and then a number. Assumes nothing.
 use native.Mathlib.Omega.{arith}
-use borrow.Author.Rules.{rules}
 use lib.ListN.{length-append}
 use Rattle.writing.proofs.Writing.{put_more}
 use Rattle.writing.proofs.put_number.Goals as goal

@@ -1,5 +1,4 @@
 -- `quick_clear_line` writes the line of the quick test that says clear. Assumes nothing.
-use borrow.Author.Rules.{rules}
 use Rattle.lines.specs.Lines.{quick_line}
 use Rattle.writing.proofs.quick_clear_line.Goals as goal
 

@@ -1,5 +1,4 @@
 -- `refused_line` writes the line of a refusal. Assumes nothing.
-use borrow.Author.Rules.{rules}
 use Rattle.lines.specs.Lines.{refused_line}
 use Rattle.writing.proofs.refused_line.Goals as goal
 

@@ -1,6 +1,5 @@
 -- `run_line` writes the line of a module's number and tape. Assumes nothing.
 use native.Mathlib.Omega.{arith}
-use borrow.Author.Rules.{rules}
 use lib.ListN.{length-append, length-map}
 use Rattle.lines.specs.Decimal.{digit}
 use Rattle.lines.specs.Lines.{run_line}

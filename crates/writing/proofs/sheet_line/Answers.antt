@@ -1,6 +1,5 @@
 -- `sheet_line` writes the line of the counts and the horizon. Assumes nothing.
 use native.Mathlib.Omega.{arith}
-use borrow.Author.Rules.{rules}
 use lib.ListN.{length-append}
 use Rattle.lines.specs.Decimal.{decimal}
 use Rattle.lines.specs.Lines.{ascii, sheet_line_of}
