@@ -1,14 +1,12 @@
 //! Finds the checker's archive, or has it made and proved, and links it.
 
+use std::io::ErrorKind;
 use std::path::{Path, PathBuf};
 use std::process::Command;
 use std::{env, fs};
 
 /// The variable that names an archive; it goes before the other ways.
 const NAMED: &str = "TYVASURI_ARCHIVE";
-
-/// The status by which a shell says that there is no such command, here `rt`.
-const NO_COMMAND: i32 = 127;
 
 /// An archive, and the paths whose change asks for another one.
 struct Found {
@@ -34,13 +32,21 @@ fn find() -> Result<Found, String> {
     let own = folder("CARGO_MANIFEST_DIR");
     let root = own.ancestors().nth(2).expect("the crate stands two folders below the root");
     let archive = root.join("target/staticlib/libchecker.a");
+    match Command::new("rt").arg("version").output() {
+        Ok(_) => made(root, archive),
+        Err(error) if error.kind() != ErrorKind::NotFound => {
+            Err(format!("`rt` cannot be started: {error}"))
+        }
+        Err(_) if archive.is_file() => Ok(as_it_stands(archive)),
+        Err(_) => Err(missing(&archive)),
+    }
+}
+
+/// The archive that `c/archive` makes.
+fn made(root: &Path, archive: PathBuf) -> Result<Found, String> {
     match Command::new(root.join("c/archive")).output() {
         Ok(output) if output.status.success() => Ok(Found { archive, watched: sources(root)? }),
-        Ok(output) if output.status.code() != Some(NO_COMMAND) => {
-            Err(not_made(&output.stdout, &output.stderr))
-        }
-        Ok(_) if archive.is_file() => Ok(as_it_stands(archive)),
-        Ok(_) => Err(missing(&archive)),
+        Ok(output) => Err(not_made(&output.stdout, &output.stderr)),
         Err(error) => Err(format!("`c/archive` cannot be started: {error}")),
     }
 }

@@ -1,10 +1,7 @@
 -- An argument out of range is refused before too little memory. Assumes nothing.
-use borrow.Author.Tests.{not-true, not-false, lt-leb, le-leb}
+use borrow.Author.Tests.{not-false, lt-leb, le-leb}
 use Rattle.model.specs.Limits.{work_numbers}
 use Rattle.states.proofs.tested.Goals as goal
-
-pub returns-then-not-in_range : goal.returns-then-not-in_range
-returns-then-not-in_range c = rw (not-true c.args.in_range c.if-not-in_range.true-raw)
 
 pub returns-then-work-lt-WORK_NUMBERS : goal.returns-then-work-lt-WORK_NUMBERS
 returns-then-work-lt-WORK_NUMBERS c = rw (not-false c.args.in_range c.if-not-in_range.false-raw, lt-leb work_numbers c.args.work c.if-work-lt-WORK_NUMBERS.true)
