@@ -1,7 +1,7 @@
 -- The figures for no tick are 0; those for l - 1 ticks, with all offers of the layer for l ticks, are those for l; and none is above 32,000. Assumes nothing.
 use mathlib.Core.Path.{◌≡◌, refl, sym, ◌∙◌, ap}
 use mathlib.Core.Logic.{⊎_elim}
-use mathlib.Core.List.{List, ◌∷◌, Memᴰ}
+use mathlib.Core.List.{List, [], ◌∷◌, Memᴰ}
 use Prim.Native.Nat.{ℕ, suc, ◌+◌, ◌-◌, ◌*◌, ◌/◌, ◌%◌, ◌≤◌, ◌<◌}
 use native.Mathlib.Nat.{le_antisymm, sub-zero, mod-lt}
 use native.Mathlib.Decide.{dec_le}
@@ -35,7 +35,7 @@ abbrev TaskAt : List ℕ → Task → Type 0
 TaskAt tasks k = (j : ℕ) × (j < length tasks / 4) × (look tasks (4 * j) ≡ k.offset) × (look tasks (4 * j + 2) ≡ k.LET) × (look tasks (4 * j + 3) ≡ k.period)
 
 task_at_lem : (k : Task) (ks : List Task) → Memᴰ k ks → TaskAt (task_numbers ks) k
-task_at_lem k mathlib.Core.List.[] x' = elim x' [ ]
+task_at_lem k [] i = elim i [ ]
 task_at_lem k (x ∷ ks) (Memᴰ.head e) = rw e (0, omega arith, refl, refl, refl)
 task_at_lem k (x ∷ ks) (Memᴰ.tail i) =
     let r = task_at_lem k ks i in

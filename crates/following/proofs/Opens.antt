@@ -33,7 +33,7 @@ leads_sound d j (w ∷ ws) e = pick (or_either _ _ e) (leads_sound d j ws)
     pick (inr h) below = let r = below h in (r.0, Memᴰ.tail r.1, r.2, r.3)
 
 leads_complete : (d j : ℕ) (w : Switch) (ws : List Switch) → Memᴰ w ws → w.target ≡ j → (d + 1) % w.period ≡ 0 → leads d ws j ≡ true
-leads_complete d j w [] x3 ht hm = elim x3 [ ]
+leads_complete d j w [] i ht hm = elim i [ ]
 leads_complete d j w (v ∷ ws) (Memᴰ.head e) ht hm = rw (eq-eqb v.target j (rw e at ht), eq-eqb ((d + 1) % v.period) 0 (rw e at hm))
 leads_complete d j w (v ∷ ws) (Memᴰ.tail h) ht hm = or_right (eqb v.target j && eqb ((d + 1) % v.period) 0) _ (leads_complete d j w ws h ht hm)
 

@@ -151,37 +151,37 @@ at_hz h ms s m = record { order = refl; horizon = inside 1 max_horizon h s.value
 
 -- ML: the modes that are pending are its module, as many as it states.
 module _ (n : ℕ) (rs : List Record) (os : List Mode) (ms : List Module) (s : Sheet) where
-  abbrev closedModule : Module
-  closedModule = record { modes = os }
+  abbrev closed_module : Module
+  closed_module = record { modes = os }
 
   at_ml : AllSound (ml n ∷ rs) → Fits (ml n ∷ rs) [] [] os → Kept (ml n ∷ rs) [] [] os ms →
-      (Fits rs [] [] [] → Kept rs [] [] [] (closedModule ∷ ms) → Gathers rs [] [] [] (closedModule ∷ ms) s) → Gathers (ml n ∷ rs) [] [] os ms s
+      (Fits rs [] [] [] → Kept rs [] [] [] (closed_module ∷ ms) → Gathers rs [] [] [] (closed_module ∷ ms) s) → Gathers (ml n ∷ rs) [] [] os ms s
   unfolding ordered ruled module_records
   at_ml a f v next =
       let o : (not (is_empty rs) ≡ true) × (eqb (seen rs) (stated rs) ≡ true) = (and-eq-true_iff _ _).0 a.2.order in
       let m : length os ≡ n = omega (arith, f.modes) in
       let r : (1 ≤ n) × (n ≤ max_modes) = inside 1 max_modes n a.2.value in
-      let rule : ModuleRule closedModule = record { least = omega arith; most = omega arith; modes = rw m v.modes } in
-      let g = next (no_mode rs [] (not-true _ o.0) a.1 (omega (arith, eqb-true))) (no_mode_kept rs [] (closedModule ∷ ms) a.0 tt (rule, v.modules)) in
+      let rule : ModuleRule closed_module = record { least = omega arith; most = omega arith; modes = rw m v.modes } in
+      let g = next (no_mode rs [] (not-true _ o.0) a.1 (omega (arith, eqb-true))) (no_mode_kept rs [] (closed_module ∷ ms) a.0 tt (rule, v.modules)) in
       record { order = rw m at g.order; horizon = g.horizon; rules = g.rules; modules = omega (arith, g.modules); modes = omega (arith, g.modes); tasks = omega (arith, g.tasks); switches = omega (arith, g.switches) }
 
 -- MD: the tasks and switches that are pending are its mode.
 module _ (p : ℕ) (rs : List Record) (ks : List Task) (ws : List Switch) (os : List Mode) (ms : List Module) (s : Sheet) where
-  abbrev closedMode : Mode
-  closedMode = record { period = p; tasks = ks; switches = ws }
+  abbrev closed_mode : Mode
+  closed_mode = record { period = p; tasks = ks; switches = ws }
 
-  switch_closed : (w : Switch) → SwitchKept (md p ∷ rs) ks w → SwitchRule (stated rs) (seen rs) closedMode w
+  switch_closed : (w : Switch) → SwitchKept (md p ∷ rs) ks w → SwitchRule (stated rs) (seen rs) closed_mode w
   switch_closed w k = record { there = k.there; other = λ e. k.other (omega arith); positive = k.positive; divides = k.divides; tasks = k.tasks }
 
   at_md : AllSound (md p ∷ rs) → Fits (md p ∷ rs) ks ws os → Kept (md p ∷ rs) ks ws os ms →
-      (Fits rs [] [] (closedMode ∷ os) → Kept rs [] [] (closedMode ∷ os) ms → Gathers rs [] [] (closedMode ∷ os) ms s) → Gathers (md p ∷ rs) ks ws os ms s
+      (Fits rs [] [] (closed_mode ∷ os) → Kept rs [] [] (closed_mode ∷ os) ms → Gathers rs [] [] (closed_mode ∷ os) ms s) → Gathers (md p ∷ rs) ks ws os ms s
   unfolding ordered ruled mode_records
   at_md a f v next =
       let o : seen rs < stated rs = ltb-true _ _ a.2.order in
       let r : (1 ≤ p) × (p ≤ max_mode_period) = inside 1 max_mode_period p a.2.value in
-      let rule : ModeRule (stated rs) (seen rs) closedMode =
+      let rule : ModeRule (stated rs) (seen rs) closed_mode =
       record { least = r.0; most = r.1; count = omega (arith, v.count); tasks = v.tasks; switches = all_to switch_closed ws v.switches; once = v.once } in
-      let g = next (no_mode rs (closedMode ∷ os) (begun_by rs (omega arith)) a.1 (omega (arith, f.modes))) (no_mode_kept rs (closedMode ∷ os) ms a.0 (rule, v.modes) v.modules) in
+      let g = next (no_mode rs (closed_mode ∷ os) (begun_by rs (omega arith)) a.1 (omega (arith, f.modes))) (no_mode_kept rs (closed_mode ∷ os) ms a.0 (rule, v.modes) v.modules) in
       record { order = simp append_assoc at g.order; horizon = g.horizon; rules = g.rules; modules = g.modules; modes = omega (arith, g.modes); tasks = omega (arith, g.tasks); switches = omega (arith, g.switches) }
 
 -- TK: one task more is pending.

@@ -45,7 +45,7 @@ nexts_split m f k d h = pick (dec_lt (d + 1) (mode_at m k).period)
 
 module _ (f : State → ℕ) (d : ℕ) where
   open_le : (w : Switch) (ws : List Switch) → Memᴰ w ws → (d + 1) % w.period ≡ 0 → f (at w.target 0) ≤ max_of f (targets d ws)
-  open_le w [] x' h = elim x' [ ]
+  open_le w [] i h = elim i [ ]
   open_le w (v ∷ ws) (Memᴰ.head e) h = rw e (rw (eq-eqb ((d + 1) % v.period) 0 (rw e at h)) (omega arith))
   open_le w (v ∷ ws) (Memᴰ.tail i) h = omega (arith, max_of_cons_if f (eqb ((d + 1) % v.period) 0) (at v.target 0) (targets d ws), open_le w ws i h)
 

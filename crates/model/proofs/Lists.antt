@@ -50,7 +50,7 @@ largest_unique P v w hv hw = le_antisymm (hw.1 v hv.0) (hv.1 w hw.0)
 -- The largest value over a list.
 
 pub le_max_of : {A : Type 0} (f : A → ℕ) (x : A) (xs : List A) → Memᴰ x xs → f x ≤ max_of f xs
-le_max_of {A = A} f x [] x' = elim x' [ ]
+le_max_of f x [] i = elim i [ ]
 le_max_of f x (y ∷ ys) (Memᴰ.head e) = rw e (le-max_left (f y) (max_of f ys))
 le_max_of f x (y ∷ ys) (Memᴰ.tail h) = le_trans (le_max_of f x ys h) (le-max_right (f y) (max_of f ys))
 
@@ -108,7 +108,7 @@ max_below_same f g (suc n) h = omega (arith, h n (omega arith), max_below_same f
 -- What holds of each element.
 
 pub all_mem : {A : Type 0} (P : A → Type 0) (x : A) (xs : List A) → All P xs → Memᴰ x xs → P x
-all_mem {A = A} P x [] h x3 = elim x3 [ ]
+all_mem P x [] h i = elim i [ ]
 all_mem P x (y ∷ ys) h (Memᴰ.head e) = rw e h.0
 all_mem P x (y ∷ ys) h (Memᴰ.tail k) = all_mem P x ys h.1 k
 

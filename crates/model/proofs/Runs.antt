@@ -47,7 +47,7 @@ targets_sound d t (w ∷ ws) h = pick (cons_if_cases (eqb ((d + 1) % w.period) 0
     pick (inr k) below = let r = below k in (r.0, Memᴰ.tail r.1, r.2, r.3)
 
 targets_complete : (d : ℕ) (t : State) (w : Switch) (ws : List Switch) → Memᴰ w ws → (d + 1) % w.period ≡ 0 → t ≡ at w.target 0 → Memᴰ t (targets d ws)
-targets_complete d t w [] x3 hm ht = elim x3 [ ]
+targets_complete d t w [] i hm ht = elim i [ ]
 targets_complete d t w (v ∷ ws) (Memᴰ.head e) hm ht = cons_if_here _ _ t (targets d ws) (eq-eqb _ _ (rw e at hm)) (rw e at ht)
 targets_complete d t w (v ∷ ws) (Memᴰ.tail h) hm ht = cons_if_there (eqb ((d + 1) % v.period) 0) (at v.target 0) t (targets d ws) (targets_complete d t w ws h hm ht)
 

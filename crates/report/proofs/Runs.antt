@@ -20,29 +20,29 @@ use Rattle.writing.proofs.Lengths.{run_length}
 
 -- The tapes of b bytes in a memory.
 module _ (b : ℕ) (memory : List ℕ) where
-  abbrev tapeAt : ℕ → List ℕ
-  tapeAt k = take b (drop (k * b) memory)
+  abbrev tape_at : ℕ → List ℕ
+  tape_at k = take b (drop (k * b) memory)
 
-  runs_more : (j k : ℕ) → run_lines j (tapes_from j (suc k) b memory) ≡ run_lines j (tapes_from j k b memory) ++ run_line (j + k) (tapeAt (j + k))
+  runs_more : (j k : ℕ) → run_lines j (tapes_from j (suc k) b memory) ≡ run_lines j (tapes_from j k b memory) ++ run_line (j + k) (tape_at (j + k))
   unfolding run_lines
-  runs_more j zero = rw (add-zero j) (append-nil (run_line j (tapeAt j)))
+  runs_more j zero = rw (add-zero j) (append-nil (run_line j (tape_at j)))
   runs_more j (suc k) =
       let sum : j + suc k ≡ suc j + k = omega arith in
-      rw (sum, append_assoc (run_line j (tapeAt j)) (run_lines (suc j) (tapes_from (suc j) k b memory)) (run_line (suc j + k) (tapeAt (suc j + k)))) (ap (λ (l : List ℕ). run_line j (tapeAt j) ++ l) (runs_more (suc j) k))
+      rw (sum, append_assoc (run_line j (tape_at j)) (run_lines (suc j) (tapes_from (suc j) k b memory)) (run_line (suc j + k) (tape_at (suc j + k)))) (ap (λ (l : List ℕ). run_line j (tape_at j) ++ l) (runs_more (suc j) k))
 
   runs_length : (j n : ℕ) → j + n ≤ 10 → length (run_lines j (tapes_from j n b memory)) ≤ n * (7 + b)
   unfolding run_lines
   runs_length j zero h = omega arith
   runs_length j (suc n) h =
-      let tape : length (tapeAt j) ≤ b = simp length-take (omega arith) in
-      omega (arith, length-append (run_line j (tapeAt j)) (run_lines (suc j) (tapes_from (suc j) n b memory)), run_length 1 j (tapeAt j) (omega arith) (omega arith), tape, runs_length (suc j) n (omega arith))
+      let tape : length (tape_at j) ≤ b = simp length-take (omega arith) in
+      omega (arith, length-append (run_line j (tape_at j)) (run_lines (suc j) (tapes_from (suc j) n b memory)), run_length 1 j (tape_at j) (omega arith) (omega arith), tape, runs_length (suc j) n (omega arith))
 
-  pub tape_at : (P : List ℕ → Type 0) (j n : ℕ) → All P (tapes_from j n b memory) → (k : ℕ) → k < n → P (tapeAt (j + k))
-  tape_at P j zero h k l = absurd (omega arith)
-  tape_at P j (suc n) h zero l = rw (add-zero j) h.0
-  tape_at P j (suc n) h (suc k) l =
+  pub tape_at_lem : (P : List ℕ → Type 0) (j n : ℕ) → All P (tapes_from j n b memory) → (k : ℕ) → k < n → P (tape_at (j + k))
+  tape_at_lem P j zero h k l = absurd (omega arith)
+  tape_at_lem P j (suc n) h zero l = rw (add-zero j) h.0
+  tape_at_lem P j (suc n) h (suc k) l =
       let sum : j + suc k ≡ suc j + k = omega arith in
-      rw sum (tape_at P (suc j) n h.1 k (omega arith))
+      rw sum (tape_at_lem P (suc j) n h.1 k (omega arith))
 
   pub runs_none : (at : ℕ) (o : List ℕ) → Put at at (run_lines 0 (tapes_in 0 b memory)) o o
   unfolding run_lines
@@ -50,15 +50,15 @@ module _ (b : ℕ) (memory : List ℕ) where
 
   -- the lines of the first k runs are written
   module _ (k : ℕ) {at next : ℕ} {o o' : List ℕ} (p : Put at next (run_lines 0 (tapes_in k b memory)) o o') where
-    pub run_room : (n : ℕ) → k < n → n ≤ 8 → b ≤ 2000 → at ≤ 149 → 16384 ≤ length o → next + length (run_line k (tapeAt k)) ≤ length o'
+    pub run_room : (n : ℕ) → k < n → n ≤ 8 → b ≤ 2000 → at ≤ 149 → 16384 ≤ length o → next + length (run_line k (tape_at k)) ≤ length o'
     run_room n more few short low room =
-        let tape : length (tapeAt k) ≤ b = simp length-take (omega arith) in
+        let tape : length (tape_at k) ≤ b = simp length-take (omega arith) in
         let all : (k + 1) * (7 + b) ≤ 8 * 2007 = mul-le-mul {n₂ = 8} {m₂ = 2007} (omega arith) (omega arith) in
-        omega (arith, p.ends, p.len, runs_length 0 k (omega arith), run_length 1 k (tapeAt k) (omega arith) (omega arith), tape, all)
+        omega (arith, p.ends, p.len, runs_length 0 k (omega arith), run_length 1 k (tape_at k) (omega arith) (omega arith), tape, all)
 
-    pub run_more : {end : ℕ} {o'' : List ℕ} → Put next end (run_line k (tapeAt k)) o' o'' → Put at end (run_lines 0 (tapes_in (k + 1) b memory)) o o''
+    pub run_more : {end : ℕ} {o'' : List ℕ} → Put next end (run_line k (tape_at k)) o' o'' → Put at end (run_lines 0 (tapes_in (k + 1) b memory)) o o''
     run_more q =
-        let one : run_lines 0 (tapes_from 0 (suc k) b memory) ≡ run_lines 0 (tapes_from 0 k b memory) ++ run_line k (tapeAt k) = rw zero-add at (runs_more 0 k) in
+        let one : run_lines 0 (tapes_from 0 (suc k) b memory) ≡ run_lines 0 (tapes_from 0 k b memory) ++ run_line k (tape_at k) = rw zero-add at (runs_more 0 k) in
         rw (add-one k, one) (put_more p q)
 
 -- The modes of a run that starts in a listed state are listed.

@@ -3,7 +3,7 @@
 
 ghost use Rattle.std.specs.Prelude.{◌≡◌, ◌&&◌, ◌*◌, ◌≤◌, leb, length as count};
 ghost use Rattle.model.specs.Limits.{work_numbers};
-ghost use Rattle.model.specs.Verdict.{quick as quickVerdict};
+ghost use Rattle.model.specs.Verdict.{quick as quick_verdict};
 ghost use Rattle.format.specs.Judgement.{sheet_in};
 ghost use Rattle.query.specs.Answer.{Meets};
 ghost use Rattle.query.specs.Query.{quick_terms, exact_terms};
@@ -166,7 +166,7 @@ fn exact_lines(out: &mut [u8], at: usize, exact: Exact, tape: &[u8], modules: us
 // The quick test and its line.
 fn quick_part(sheet: &[u8], work: &mut [u32], out: &mut [u8], at: usize) -> usize
     requires { (Meets (quick_terms (count work.old)) sheet.now) × (at ≤ 73) × (out_bytes ≤ count out.old) }
-    ensures { (Put at result (quick_line (quickVerdict (sheet_in sheet.now))) out.old out.new) × (result ≤ 108) × (Stays work_numbers work.old work.new) }
+    ensures { (Put at result (quick_line (quick_verdict (sheet_in sheet.now))) out.old out.new) × (result ≤ 108) × (Stays work_numbers work.old work.new) }
 {
     let quick = quick::quick_test(sheet, work);
     quick_line(out, at, quick)

@@ -1,7 +1,8 @@
 // Reads a sheet from standard input, at most one byte more than the longest one has, and prints its report, or why it is refused.
 #![tactic(auto)]
 
-ghost use Rattle.std.specs.Prelude.{◌≡◌, ◌+◌, ◌≤◌, length, IfOk};
+ghost use Rattle.std.specs.Prelude.{◌≡◌, ◌+◌, ◌≤◌, ◌<◌, length, take, IfOk};
+ghost use Rattle.std.specs.Io.KnownBytes.{Consumes, IsAtEnd};
 ghost use Rattle.model.specs.Limits.{max_bytes};
 
 use judge::Sheet;
@@ -16,9 +17,11 @@ fn room() -> [u8; Sheet::MAX_BYTES + 1]
     [0u8; Sheet::MAX_BYTES + 1]
 }
 
-// Reads until the room is full or the input ends: how many bytes it has put there.
+// Reads until the room is full or the input ends: how many bytes it has put there, which are those that came.
 fn read_full<R: Read>(from: &mut R, room: &mut [u8]) -> io::Result<usize>
-    ensures { IfOk result (λ n. n ≤ length room.new) }
+    ensures within { IfOk result (λ n. n ≤ length room.new) }
+    ensures bytes { IfOk result (λ n. Consumes (R.remaining from.old) (R.remaining from.new) (take n room.new)) }
+    ensures full_or_end { IfOk result (λ n. n < length room.new → IsAtEnd (R.remaining from.new)) }
 {
     let mut n = 0;
     while n < room.len() {

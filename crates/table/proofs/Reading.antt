@@ -88,7 +88,7 @@ switch_listed_at_lem m j t l =
 
 -- a target that stands in the list is no other's
 apart : (t : ℕ) (w : Switch) (ws : List Switch) → All (λ u. t ≡ u → ⊥) (map (λ (v : Switch). v.target) ws) → Memᴰ w ws → t ≡ w.target → ⊥
-apart t w [] a x3 q = elim x3 [ ]
+apart t w [] a i q = elim i [ ]
 apart t w (v ∷ ws) a (Memᴰ.head e) q = a.0 (rw (e) at q)
 apart t w (v ∷ ws) a (Memᴰ.tail h) q = apart t w ws a.1 h q
 

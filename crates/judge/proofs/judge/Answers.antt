@@ -10,11 +10,11 @@ use Rattle.judge.proofs.judge.Goals.{After-next-1}
 use Rattle.judge.proofs.judge.Goals as goal
 
 -- a turn of the loop leads on
-leads-on : (c : After-next-1)
+leads_on : (c : After-next-1)
     → CameTo c.args.sheet.now c.step-turn.result.next
     × (c.loop-read.read.at < c.step-turn.result.next.at)
     × (c.step-turn.result.next.at ≤ length c.args.sheet.now)
-leads-on c =
+leads_on c =
     goes_on _ _ c.loop-read.invariant (not-true _ c.loop-read-test.true) _ c.step-turn.ensures c.in_default.is
 
 pub loop-read-init : goal.loop-read-init
@@ -27,10 +27,10 @@ pub returns-in-Fault : goal.returns-in-Fault
 returns-in-Fault c = sym (ap tells_of (is_refused _ _ c.loop-read.invariant (not-true _ c.loop-read-test.true) _ c.step-turn.ensures _ _ c.in-Fault.is))
 
 pub loop-read-smaller : goal.loop-read-smaller
-loop-read-smaller c = omega (arith, (leads-on (goal.at.loop-read-smaller c).After-next-1).1, (leads-on (goal.at.loop-read-smaller c).After-next-1).2)
+loop-read-smaller c = omega (arith, (leads_on (goal.at.loop-read-smaller c).After-next-1).1, (leads_on (goal.at.loop-read-smaller c).After-next-1).2)
 
 pub loop-read-preserved : goal.loop-read-preserved
-loop-read-preserved c = (leads-on (goal.at.loop-read-preserved c).After-next-1).0
+loop-read-preserved c = (leads_on (goal.at.loop-read-preserved c).After-next-1).0
 
 pub returns-then-read-sheet : goal.returns-then-read-sheet
 returns-then-read-sheet c = sym (ap tells_of (is_followed _ _ c.loop-read.invariant (not-false _ c.loop-read-test.false) c.if-read-sheet.true))

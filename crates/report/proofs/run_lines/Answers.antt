@@ -4,7 +4,7 @@ use Prim.Native.Nat.{◌+◌, ◌-◌, ◌*◌, ◌≤◌, ◌<◌}
 use native.Mathlib.Nat.{zero-add, mul-le-mul_right, mul-le-mul}
 use native.Mathlib.Omega.{arith}
 use Rattle.writing.specs.Writing.{OneDigitEach}
-use Rattle.report.proofs.Runs.{tape_at, run_room, run_more, runs_none}
+use Rattle.report.proofs.Runs.{tape_at_lem, run_room, run_more, runs_none}
 use Rattle.report.proofs.run_lines.Goals as goal
 
 pub loop-k-init : goal.loop-k-init
@@ -34,7 +34,7 @@ run_line-next-requires c = let l = c.loop-k in
     let b = c.args.end in
     let tape = c.args.tape.now in
     let size : (l.k * b + b) - l.k * b ≡ b = omega arith in
-    rw size (run_room b tape l.k l.invariant.0 c.args.modules c.loop-k-test.true c.requires.modules_bound.0 c.requires.modules_bound.1.short c.requires.at_bound.0 c.requires.at_bound.1, rw zero-add at (tape_at b tape OneDigitEach 0 c.args.modules c.requires.modules_bound.1.digits l.k c.loop-k-test.true))
+    rw size (run_room b tape l.k l.invariant.0 c.args.modules c.loop-k-test.true c.requires.modules_bound.0 c.requires.modules_bound.1.short c.requires.at_bound.0 c.requires.at_bound.1, rw zero-add at (tape_at_lem b tape OneDigitEach 0 c.args.modules c.requires.modules_bound.1.digits l.k c.loop-k-test.true))
 
 pub loop-k-preserved : goal.loop-k-preserved
 loop-k-preserved c = let l = c.loop-k in

@@ -1,9 +1,13 @@
-use Rattle.std.proofs.Common.{◌-◌, ◌≤◌, length}
+-- What has been read is at the front of the room.
+use Rattle.std.proofs.Common.{◌-◌, ◌≤◌, length, take}
+use Rattle.std.specs.Io.KnownBytes.{Consumes}
 use Rattle.sheet.proofs.read_full.Given as goal
 
--- No more has been read than there is room for.
 abbrev pub invariant-loop-n : goal.invariant-loop-n
-invariant-loop-n g l = l.n ≤ length l.room
+invariant-loop-n g l = record {
+  within : l.n ≤ length l.room;
+  bytes : Consumes (g.R.Read.remaining l.initial.from) (g.R.Read.remaining l.from) (take l.n l.room);
+}
 
 abbrev pub decreases-loop-n : goal.decreases-loop-n
 decreases-loop-n g l = length l.initial.room - l.n
