@@ -1,5 +1,4 @@
 pub mod Tops
-pub mod Topping
 pub mod Bounding
 pub mod Adding
 pub mod Summing

@@ -1,6 +1,6 @@
 -- The first interval that is over, looked for from length to length at one end, and from end to end. Assumes nothing.
 use mathlib.Core.Path.{◌≡◌, sym, ap, ◌∙◌}
-use mathlib.Core.Bool.{Bool}
+use mathlib.Core.Bool.{Bool, true, false}
 use mathlib.Core.List.{List}
 use Prim.Native.Nat.{ℕ, suc, ◌+◌, ◌-◌, ◌*◌, ◌≤◌, ◌<◌}
 use native.Mathlib.Nat.{add-zero}
@@ -12,7 +12,7 @@ use Rattle.model.specs.Limits.{work_numbers}
 use Rattle.model.specs.Verdict.{Exact, exact_pick, or_else, exact_at, exact_from}
 use Rattle.layers.specs.Step.{look}
 use Rattle.memory.specs.Map.{cells_from}
-use Rattle.cells.specs.Cells.{cell_at, Tile, Holding}
+use Rattle.cells.specs.Cells.{in_question, cell_at, Tile, Holding}
 use Rattle.cells.proofs.Rows.{rows_none, cell_more, row_inside}
 
 module _ (f : ℕ → ℕ → ℕ) (b : ℕ) where
@@ -65,26 +65,26 @@ module _ (w : List ℕ) (lo width i : ℕ) where
 
     module _ (h : i < width) (k : L ≤ lo + i) where
       -- a length that is not in question
-      pub passed_other : look w L ≤ L → Passed w lo width i (L + 1) x
+      pub passed_other : in_question w L ≡ false → Passed w lo width i (L + 1) x
       passed_other q = record {
         low = omega arith;
         high = omega arith;
-        cell = omega (arith, p.cell, cell_more w L p.low width i, ap (λ (t : Bool). when t 1 * width) (le-ltb L (look w L) q));
-        rest = λ f hold. p.rest f hold ∙ longer_on f (lo + i) L k (hold.others L i h p.low k (le-ltb L (look w L) q));
+        cell = omega (arith, p.cell, cell_more w L p.low width i, ap (λ (t : Bool). when t 1 * width) q);
+        rest = λ f hold. p.rest f hold ∙ longer_on f (lo + i) L k (hold.others L i h p.low k q);
       }
 
-      module _ (q : L < look w L) where
+      module _ (q : in_question w L ≡ true) where
         pub passed_inside : Tile w lo width → x < work_numbers
-        passed_inside t = omega (arith, p.cell, row_inside w L p.low lo width t (omega arith) (lt-ltb L (look w L) q))
+        passed_inside t = omega (arith, p.cell, row_inside w L p.low lo width t (omega arith) q)
 
         held : (f : ℕ → ℕ → ℕ) → Holding f w lo width → look w x ≡ f (lo + i - L) (lo + i)
-        held f hold = ap (look w) p.cell ∙ hold.cells L i h p.low k (lt-ltb L (look w L) q)
+        held f hold = ap (look w) p.cell ∙ hold.cells L i h p.low k q
 
         pub passed_cell : look w x ≤ L → Passed w lo width i (L + 1) (x + width)
         passed_cell c = record {
           low = omega arith;
           high = omega arith;
-          cell = omega (arith, p.cell, cell_more w L p.low width i, ap (λ (t : Bool). when t 1 * width) (lt-ltb L (look w L) q));
+          cell = omega (arith, p.cell, cell_more w L p.low width i, ap (λ (t : Bool). when t 1 * width) q);
           rest = λ f hold. p.rest f hold ∙ longer_on f (lo + i) L k (omega (arith, held f hold));
         }
 

@@ -10,8 +10,8 @@ use Rattle.model.specs.Limits.{work_numbers}
 use Rattle.model.specs.Verdict.{exact_from}
 use Rattle.memory.specs.Map.{cells_from}
 use Rattle.layers.specs.Step.{look}
-use Rattle.cells.specs.declared.Found.{Found}
-use Rattle.cells.specs.declared.Found.TheVariants.{Clear, At}
+use Rattle.std.specs.Prelude.{Option, Some, None}
+use Rattle.cells.specs.declared.Interval.{Interval}
 use Rattle.cells.specs.Cells.{in_question, cell_at, Holding, found_of, CellsCleared}
 
 -- clear_cells
@@ -35,14 +35,18 @@ module _ (w : List ℕ) (lo width : ℕ) where
   }
 
 -- what a search says that has found something, or nothing
-pub found_injective : (r r' : Found) → found_of r ≡ found_of r' → r ≡ r'
-found_injective Clear Clear e = cc
-found_injective Clear (At a b v) e = cc
-found_injective (At a b v) Clear e = cc
-found_injective (At a b v) (At a' b' v') e = cc
+pub found_injective : (r r' : Option Interval) → found_of r ≡ found_of r' → r ≡ r'
+found_injective None None e = cc
+found_injective None (Some x) e = cc
+found_injective (Some x) None e = cc
+found_injective (Some x) (Some y) e =
+    let start : x.start ≡ y.start = cc in
+    let end : x.end ≡ y.end = cc in
+    let demand : x.demand ≡ y.demand = cc in
+    λ i. Some (record { start = start i; end = end i; demand = demand i })
 
 -- first_in_tile
-pub found_unique : (w : List ℕ) (lo width : ℕ) (r r' : Found) → ((f : ℕ → ℕ → ℕ) → Holding f w lo width → found_of r ≡ exact_from f width lo)
+pub found_unique : (w : List ℕ) (lo width : ℕ) (r r' : Option Interval) → ((f : ℕ → ℕ → ℕ) → Holding f w lo width → found_of r ≡ exact_from f width lo)
     → ((f : ℕ → ℕ → ℕ) → Holding f w lo width → found_of r' ≡ exact_from f width lo) → r ≡ r'
 found_unique w lo width r r' h h' =
     let holds : Holding (held w lo width) w lo width = held_holding w lo width in

@@ -2,7 +2,6 @@
 use mathlib.Core.Path.{◌≡◌, sym}
 use mathlib.Core.List.{List}
 use Prim.Native.Nat.{ℕ, pred, ◌+◌, ◌*◌, ◌≤◌, ◌<◌}
-use native.Mathlib.Nat.{mul-le-mul}
 use native.Mathlib.Omega.{arith}
 use lib.ListN.{length}
 use Rattle.model.specs.Lists.{when}
@@ -27,14 +26,8 @@ module _ (w : List ℕ) (lo horizon : ℕ) (last : horizon ≤ 2000) where
     count = let same : pred (lo + 1) ≡ lo = omega arith in rw same e;
   }
 
-  module _ (width n r : ℕ) (t : Widened w lo horizon width n) (h : width < 512) (l : lo + width ≤ horizon) (e : r ≡ when (in_question w (lo + width)) 1) where
-    counted : n + r ≡ rows w (lo + width)
-    counted = omega (arith, t.count, rows_last w (lo + width) (omega arith))
-
-    pub widened_fits : (n + r) * (width + 1) ≤ 2000 * 512
-    widened_fits = mul-le-mul {n₂ = 2000} {m₂ = 512} (omega (arith, counted, rows_most w (lo + width))) (omega arith)
-
-    pub widened_more : (n + r) * (width + 1) ≤ cell_numbers → Widened w lo horizon (width + 1) (n + r)
+  module _ (width n n' : ℕ) (t : Widened w lo horizon width n) (h : width < 512) (l : lo + width ≤ horizon) (e : n' ≡ n + when (in_question w (lo + width)) 1) where
+    pub widened_more : n' * (width + 1) ≤ cell_numbers → Widened w lo horizon (width + 1) n'
     widened_more room = record {
       tile = record { memory = t.tile.memory; first = t.tile.first; few = omega arith; ends = omega arith; room = rw (sym count) (omega arith) };
       some = omega arith;
@@ -42,5 +35,5 @@ module _ (w : List ℕ) (lo horizon : ℕ) (last : horizon ≤ 2000) where
       count = count;
     }
       where
-        count : n + r ≡ rows w (pred (lo + (width + 1)))
-        count = let same : pred (lo + (width + 1)) ≡ lo + width = omega arith in rw same counted
+        count : n' ≡ rows w (pred (lo + (width + 1)))
+        count = let same : pred (lo + (width + 1)) ≡ lo + width = omega arith in rw same (omega (arith, t.count, rows_last w (lo + width) (omega arith)))

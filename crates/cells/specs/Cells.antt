@@ -1,12 +1,11 @@
 -- The cells of a tile of ends: a row for each length in question, in it for each end of the tile a sum over the modules. Assumes nothing.
-use Rattle.std.specs.Prelude.{◌≡◌, Bool, true, false, List, ℕ, zero, suc, pred, ◌+◌, ◌-◌, ◌*◌, ◌≤◌, ◌<◌, ltb, length}
+use Rattle.std.specs.Prelude.{Option, Some, None, ◌≡◌, Bool, true, false, List, ℕ, zero, suc, pred, ◌+◌, ◌-◌, ◌*◌, ◌≤◌, ◌<◌, ltb, length}
 use Rattle.model.specs.Lists.{when}
 use Rattle.model.specs.Limits.{work_numbers}
 use Rattle.model.specs.Verdict.{Exact}
 use Rattle.memory.specs.Map.{cells_from}
 use Rattle.layers.specs.Step.{look}
-use Rattle.cells.specs.declared.Found.{Found}
-use Rattle.cells.specs.declared.Found.TheVariants.{Clear, At}
+use Rattle.cells.specs.declared.Interval.{Interval}
 
 -- a length is in question where its bound exceeds it
 abbrev pub in_question : List ℕ → ℕ → Bool
@@ -41,9 +40,9 @@ pub record Holding (f : ℕ → ℕ → ℕ) (w : List ℕ) (lo width : ℕ) : T
 
 -- The answer.
 
-abbrev pub found_of : Found → Exact
-found_of Clear = Exact.clear
-found_of (At start end sum) = Exact.over start end sum
+abbrev pub found_of : Option Interval → Exact
+found_of None = Exact.clear
+found_of (Some x) = Exact.over x.start x.end x.demand
 
 -- The cells before the first module is added.
 

@@ -26,8 +26,9 @@ use Rattle.query.specs.Answer.{Answer, refused, given, Terms, GivenBy, AnsweredB
 use Rattle.query.specs.Query.{WitnessedIs, exact_terms, ExactAnswer}
 use Rattle.model.proofs.Summing.{sum_most}
 use Rattle.model.proofs.Emptied.{module_bound}
-use Rattle.exact.specs.declared.Exact as exact
-use Rattle.exact.specs.declared.Exact.TheVariants.{Refused, Clear, Over}
+use Rattle.std.specs.Prelude.{Option, Some, None, Result, Ok, Err}
+use Rattle.judge.specs.declared.Refusal.{Refusal}
+use Rattle.cells.specs.declared.Interval.{Interval}
 use Rattle.exact.specs.Exact.{answer_of}
 use Rattle.checker.specs.Calls.{Placed, Fits}
 
@@ -95,10 +96,10 @@ module _ (s : Sheet) (ok : WellFormed s) where
 
 -- The exact test.
 
-pub exact_fits : (bytes : List ℕ) (work tape n : ℕ) (memory : List ℕ) (x : exact.Exact) → ExactAnswer bytes work tape (answer_of n memory x) → Fits x
+pub exact_fits : (bytes : List ℕ) (work tape n : ℕ) (memory : List ℕ) (x : Result (Option Interval) Refusal) → ExactAnswer bytes work tape (answer_of n memory x) → Fits x
 exact_fits bytes work tape n memory x h = pick x (possible (exact_terms work tape) WitnessedIs bytes (answer_of n memory x) h)
   where
-    pick : (x : exact.Exact) → Possible WitnessedIs (answer_of n memory x) → Fits x
-    pick (Refused number place) c = c.placed
-    pick Clear c = tt
-    pick (Over x) c = exact_demand c.0 c.1 x.start x.end x.demand c.2.0
+    pick : (x : Result (Option Interval) Refusal) → Possible WitnessedIs (answer_of n memory x) → Fits x
+    pick (Err r) c = c.placed
+    pick (Ok None) c = tt
+    pick (Ok (Some x)) c = exact_demand c.0 c.1 x.start x.end x.demand c.2.0

@@ -1,11 +1,11 @@
 -- What a call at the C boundary promises: there is an answer that meets the call's statement, the number is that answer's, and of the lent memory only what the
 -- answer uses may differ. Assumes nothing.
-use Rattle.std.specs.Prelude.{◌≡◌, List, ℕ, ◌^◌, ◌≤◌, ◌<◌, length}
+use Rattle.std.specs.Prelude.{◌≡◌, List, ℕ, ◌^◌, ◌≤◌, ◌<◌, length, Option, Some, None, Result, Ok, Err}
 use Rattle.model.specs.Limits.{max_bytes}
 use Rattle.query.specs.Answer.{Answer, refused, given}
 use Rattle.query.specs.Memory.{Stays, work_used}
-use Rattle.exact.specs.declared.Exact.{Exact}
-use Rattle.exact.specs.declared.Exact.TheVariants.{Refused, Clear, Over}
+use Rattle.judge.specs.declared.Refusal.{Refusal}
+use Rattle.cells.specs.declared.Interval.{Interval}
 use Rattle.report.specs.Report.{out_bytes}
 
 -- r is the number of an answer that R states
@@ -25,10 +25,10 @@ Placed (refused number place) = place ≤ max_bytes
 Placed (given v) = Unit {0}
 
 -- the same of the exact test, whose demand fits the 24 bits above start and end
-abbrev pub Fits : Exact → Type 0
-Fits (Refused number place) = place ≤ max_bytes
-Fits Clear = Unit {0}
-Fits (Over x) = x.demand < 2 ^ 24
+abbrev pub Fits : Result (Option Interval) Refusal → Type 0
+Fits (Err r) = r.place ≤ max_bytes
+Fits (Ok None) = Unit {0}
+Fits (Ok (Some x)) = x.demand < 2 ^ 24
 
 -- the same of a report, whose lines the output memory can hold
 abbrev pub Held : Answer ℕ → Type 0

@@ -6,82 +6,82 @@ ghost use Rattle.std.specs.Prelude.{◌≡◌, List, ℕ, ◌<◌, ◌≤◌};
 ghost use Rattle.model.specs.Limits.{max_bytes};
 ghost use Rattle.format.specs.Judgement.{judgement};
 ghost use Rattle.query.specs.Query.{ModeAnswer, StateAnswer, ModuleAnswer, QuickAnswer};
+ghost use Rattle.judge.specs.Told.{number_of};
 ghost use Rattle.demand.specs.Demanded.{answer_of as demanded};
 ghost use Rattle.quick.specs.Quick.{answer_of as tested};
 ghost use Rattle.exact.specs.Exact.{answer_of as witnessed, ExactTested};
 ghost use Rattle.report.specs.Report.{answer_of as reported, Reported};
-ghost use Rattle.checker.specs.Numbers.{refused_number, accepted_number, judged_number, figure_number, quick_number, exact_number, exact_of};
+ghost use Rattle.checker.specs.Numbers.{refused_number, counts_of, accepted_number, judged_number, figure_number, quick_number, exact_number, exact_of};
 ghost use Rattle.checker.specs.Calls.{Numbered, Worked, Placed, Fits, Held};
 
-use demand::Demand;
-use exact::Exact;
-use judge::Judged;
-use quick::Quick;
-use report::Report;
+use exact::Interval;
+use judge::{Judged, Refusal};
+use quick::Excess;
 
 // The number of a refusal.
-fn refused(number: u8, place: usize) -> u64
-    requires { place ≤ max_bytes }
-    ensures { result ≡ refused_number number place }
+fn refused(refusal: Refusal) -> u64
+    requires { refusal.place ≤ max_bytes }
+    ensures { result ≡ refused_number (number_of refusal.fault) refusal.place }
 {
-    number as u64 + 256 * place as u64
+    u8::from(refusal.fault) as u64 + 256 * refusal.place as u64
 }
 
 // The number of an accepted sheet.
-fn accepted(modules: u16, modes: u16, tasks: u16, switches: u16, horizon: u16) -> u64
-    requires { (modules < 256) × (modes < 256) × (switches < 256) }
-    ensures { result ≡ accepted_number (record { modules = modules; modes = modes; tasks = tasks; switches = switches }) horizon }
+fn accepted(judged: Judged) -> u64
+    requires { (judged.modules < 256) × (judged.modes < 256) × (judged.switches < 256) }
+    ensures { result ≡ accepted_number (counts_of judged) judged.horizon }
 {
-    let upper = tasks as u64 + 65536 * (switches as u64 + 256 * horizon as u64);
-    256 * (modules as u64 + 256 * (modes as u64 + 256 * upper))
+    let upper = judged.switches as u64 + 256 * judged.horizon as u64;
+    let middle = judged.modes as u64 + 256 * (judged.tasks as u64 + 65536 * upper);
+    256 * (judged.modules as u64 + 256 * middle)
 }
 
 // The number of a demand.
-fn demand_number(answer: Demand) -> u64
+fn demand_number(answer: Result<u32, Refusal>) -> u64
     requires { Placed (demanded answer) }
     ensures { result ≡ figure_number (demanded answer) }
 {
     match answer {
-        Demand::Refused { number, place } => refused(number, place),
-        Demand::Given(amount) => 256 * amount.demand as u64,
+        Ok(demand) => 256 * demand as u64,
+        Err(refusal) => refused(refusal),
     }
 }
 
 // The number of what the quick test says.
-fn quick_number(answer: Quick) -> u64
+fn quick_number(answer: Result<Option<Excess>, Refusal>) -> u64
     requires { Placed (tested answer) }
     ensures { result ≡ quick_number (tested answer) }
 {
     match answer {
-        Quick::Refused { number, place } => refused(number, place),
-        Quick::Clear => 0,
-        Quick::Over(excess) => { 255 + 256 * (excess.length as u64 + 65536 * excess.demand as u64) }
+        Ok(None) => 0,
+        Ok(Some(excess)) => 255 + 256 * (excess.length as u64 + 65536 * excess.demand as u64),
+        Err(refusal) => refused(refusal),
     }
 }
 
 // The number of what the exact test says, whatever memory its tapes lie in.
-fn exact_number(answer: Exact) -> u64
+fn exact_number(answer: Result<Option<Interval>, Refusal>) -> u64
     requires { Fits answer }
     ensures { (n : ℕ) (memory : List ℕ) → result ≡ exact_number (witnessed n memory answer) }
 {
     match answer {
-        Exact::Refused { number, place } => refused(number, place),
-        Exact::Clear => 0,
-        Exact::Over(x) => {
+        Ok(None) => 0,
+        Ok(Some(x)) => {
             let upper = x.end as u64 + 65536 * x.demand as u64;
             255 + 256 * (x.start as u64 + 65536 * upper)
         }
+        Err(refusal) => refused(refusal),
     }
 }
 
-// The number of a report: how many bytes are written.
-fn report_number(answer: Report) -> u64
+// The number of a report: how many bytes are written. Not one with `demand_number`: a `usize` does not convert into a `u64`, and a `map` at each call is no plainer.
+fn report_number(answer: Result<usize, Refusal>) -> u64
     requires { Held (reported answer) }
     ensures { result ≡ figure_number (reported answer) }
 {
     match answer {
-        Report::Refused { number, place } => refused(number, place),
-        Report::Written { count } => 256 * count as u64,
+        Ok(count) => 256 * count as u64,
+        Err(refusal) => refused(refusal),
     }
 }
 
@@ -89,16 +89,9 @@ fn report_number(answer: Report) -> u64
 pub fn tyvasuri_judge(sheet: &[u8]) -> u64
     ensures { result ≡ judged_number (judgement sheet.now) }
 {
-    let judged = judge::judge(sheet);
-    match judged {
-        Judged::Refused { number, place } => refused(number, place),
-        Judged::Accepted {
-            modules,
-            modes,
-            tasks,
-            switches,
-            horizon,
-        } => accepted(modules, modes, tasks, switches, horizon),
+    match judge::judge(sheet) {
+        Ok(judged) => accepted(judged),
+        Err(refusal) => refused(refusal),
     }
 }
 

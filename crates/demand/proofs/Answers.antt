@@ -1,16 +1,16 @@
--- The answer for a mode, by where the call stops: at the sheet's fault, at each argument out of range, or with the amount. Assumes nothing.
+-- The answer for a mode: refused where b is past the mode period, else given the amount. Assumes nothing.
 use mathlib.Core.Path.{◌≡◌, refl, subst}
 use mathlib.Core.Bool.{true, false, and-false}
 use mathlib.Core.List.{List}
 use Prim.Native.Nat.{ℕ, ◌+◌, ◌≤◌, ◌<◌}
 use native.Mathlib.Omega.{arith}
 use lib.ListN.{length}
-use borrow.Author.Tests.{lt-ltb, le-ltb, le-leb, lt-leb}
+use borrow.Author.Tests.{lt-ltb, le-leb, lt-leb}
 use Rattle.model.specs.Sheet.{Sheet, module_at}
 use Rattle.model.specs.Run.{mode_at}
 use Rattle.model.specs.Demand.{mode_demand}
 use Rattle.format.specs.Record.{md, field_at}
-use Rattle.format.specs.Judgement.{refused, accepted, judgement, sheet_in, Accepted}
+use Rattle.format.specs.Judgement.{accepted, judgement, sheet_in, Accepted}
 use Rattle.format.specs.Refusal.{AreBytes}
 use Rattle.query.specs.Answer.{Answer, answer}
 use Rattle.query.specs.Query.{mode_terms, ModeAnswer}
@@ -33,32 +33,17 @@ times_there bs acc p a b some l u =
     record { order = l; most = omega (arith, u some.k some.j some.there, (mode_there_rule bs acc some.k some.j p some.there).most) }
 
 -- The answer for the mode m of the module k.
-module _ (bs : List ℕ) (k m a b : ℕ) where
-  pub answer_refused : (n p : ℕ) → judgement bs ≡ refused n p → ModeAnswer bs k m a b (Answer.refused n p)
-  answer_refused n p e = rw e refl
+module _ (bs : List ℕ) (k m a b : ℕ) (s : Sheet) (e : judgement bs ≡ accepted s) where
+  pub past_period : (mode_at (module_at s k) m).period < b → ModeAnswer bs k m a b (Answer.refused 9 0)
+  past_period h =
+      let out : (mode_terms k m a b).in_range s ≡ false = simp (lt-leb _ _ h, and-false) in
+      rw (e, out) refl
 
-  module _ (s : Sheet) (e : judgement bs ≡ accepted s) where
-    outside : (mode_terms k m a b).in_range s ≡ false → ModeAnswer bs k m a b (Answer.refused 9 0)
-    outside o = rw (e, o) refl
-
-    -- one argument out of range
-    pub no_module : length s.modules ≤ k → ModeAnswer bs k m a b (Answer.refused 9 0)
-    no_module h = outside (rw (le-ltb _ _ h))
-
-    pub no_mode : length (module_at s k).modes ≤ m → ModeAnswer bs k m a b (Answer.refused 9 0)
-    no_mode h = outside (simp (le-ltb _ _ h, and-false))
-
-    pub no_order : b < a → ModeAnswer bs k m a b (Answer.refused 9 0)
-    no_order h = outside (simp (lt-leb _ _ h, and-false))
-
-    pub past_period : (mode_at (module_at s k) m).period < b → ModeAnswer bs k m a b (Answer.refused 9 0)
-    past_period h = outside (simp (lt-leb _ _ h, and-false))
-
-    -- all in range
-    pub answer_given : k < length s.modules → m < length (module_at s k).modes → a ≤ b → b ≤ (mode_at (module_at s k) m).period
-        → ModeAnswer bs k m a b (Answer.given (mode_demand (mode_at (module_at s k) m) a b))
-    unfolding answer
-    answer_given hk hm ho hp = subst (ModeAnswer bs k m a b) (rw (e, inside)) (mode_answer_lem bs k m a b)
-      where
-        inside : (mode_terms k m a b).in_range s ≡ true
-        inside = rw (lt-ltb _ _ hk, lt-ltb _ _ hm, le-leb _ _ ho, le-leb _ _ hp)
+  -- all in range
+  pub answer_given : k < length s.modules → m < length (module_at s k).modes → a ≤ b → b ≤ (mode_at (module_at s k) m).period
+      → ModeAnswer bs k m a b (Answer.given (mode_demand (mode_at (module_at s k) m) a b))
+  unfolding answer
+  answer_given hk hm ho hp = subst (ModeAnswer bs k m a b) (rw (e, inside)) (mode_answer_lem bs k m a b)
+    where
+      inside : (mode_terms k m a b).in_range s ≡ true
+      inside = rw (lt-ltb _ _ hk, lt-ltb _ _ hm, le-leb _ _ ho, le-leb _ _ hp)

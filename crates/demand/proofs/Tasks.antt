@@ -93,12 +93,11 @@ module _ {bs : List ℕ} {p n : ℕ} (tasks : Tasks bs p n) where
 -- The first i of the tasks demand so much.
 pub record Summed (bs : List ℕ) (p n a b demand i : ℕ) : Type 0 where
   pub tasks : Tasks bs p n
-  pub few : i ≤ n
   pub bound : demand ≤ 2 * max_mode_period * i
   pub sum : (k j : ℕ) → ModeThere (sheet_in bs) k j p → demand ≡ sum_of (λ x. instances x a b * x.cost) (take i (mode_at (module_at (sheet_in bs) k) j).tasks)
 
 pub summed_none : {bs : List ℕ} {p n a b : ℕ} → Tasks bs p n → Summed bs p n a b 0 0
-summed_none t = record { tasks = t; few = omega arith; bound = omega arith; sum = λ k j h. refl }
+summed_none t = record { tasks = t; bound = omega arith; sum = λ k j h. refl }
 
 module _ {bs : List ℕ} {p n a b demand i : ℕ} (done : Summed bs p n a b demand i) where
   pub sum_fits : i < n → (r : ℕ) → r ≤ 2 * max_mode_period → demand + r < 4294967296
@@ -108,7 +107,6 @@ module _ {bs : List ℕ} {p n a b demand i : ℕ} (done : Summed bs p n a b dema
   summed_more l x e r c =
       record {
         tasks = done.tasks;
-        few = omega arith;
         bound = omega (arith, done.bound, c.bound);
         sum = λ k j h. further k j h;
       }
@@ -120,9 +118,9 @@ module _ {bs : List ℕ} {p n a b demand i : ℕ} (done : Summed bs p n a b dema
           rw (add-one i) (omega (arith, sum_step f x o.tasks i (omega (arith, done.tasks.count k j h)), done.sum k j h, c.amount, ap f (task_there done.tasks i l x e k j h)))
 
   -- all of them: the mode demand
-  pub summed_all : n ≤ i → (k j : ℕ) → ModeThere (sheet_in bs) k j p → demand ≡ mode_demand (mode_at (module_at (sheet_in bs) k) j) a b
+  pub summed_all : i ≡ n → (k j : ℕ) → ModeThere (sheet_in bs) k j p → demand ≡ mode_demand (mode_at (module_at (sheet_in bs) k) j) a b
   unfolding mode_demand
   summed_all l k j h =
       let o : Mode = mode_at (module_at (sheet_in bs) k) j in
-      let e : i ≡ length o.tasks = omega (arith, done.few, done.tasks.count k j h) in
+      let e : i ≡ length o.tasks = l ∙ done.tasks.count k j h in
       done.sum k j h ∙ rw (e, take-length o.tasks)

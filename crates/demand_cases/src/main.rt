@@ -1,13 +1,13 @@
 // Asks for the demands of the worked cases C, D and E, of a sheet with a factory mode and for more, and prints what is answered, a line each.
 #![tactic(auto)]
 
-use demand::Demand;
+use judge::Refusal;
 use std::io;
 
-fn say(rt: &HostRuntime, answer: Demand) -> io::Result<()> {
+fn say(rt: &HostRuntime, answer: Result<u32, Refusal>) -> io::Result<()> {
     match answer {
-        Demand::Refused { number, place } => println!(rt; "refused {number} at {place}"),
-        Demand::Given(amount) => println!(rt; "{}", amount.demand),
+        Ok(demand) => println!(rt; "{demand}"),
+        Err(refusal) => println!(rt; "{refusal}"),
     }
 }
 

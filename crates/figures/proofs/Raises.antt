@@ -8,11 +8,7 @@ use native.Mathlib.Omega.{arith}
 use lib.ListN.{length, set, length-set}
 use lib.Seq.{get_or-set_same, get_or-set_other}
 use Rattle.layers.specs.Step.{look}
-use Rattle.figures.specs.Offers.{Raised, Below, Room}
-
--- nothing is offered
-pub raised_none : (P : ℕ → ℕ → Type 0) (w : List ℕ) → ((i v : ℕ) → i < length w → P i v → ⊥) → Raised P w w
-raised_none P w none = record { len = refl; keeps = λ i h. omega arith; offered = λ i v h p. absurd (none i v h p); only = λ i h. inl refl }
+use Rattle.figures.specs.Offers.{Raised, Below, Ends, tile_ends, Put, Took}
 
 module _ (P R : ℕ → ℕ → Type 0) (w w' : List ℕ) where
   -- the same is offered
@@ -63,9 +59,6 @@ raised_one w i n x h e = record {
 -- The offers of the numbers below n.
 
 module _ (P : ℕ → ℕ → ℕ → Type 0) (w : List ℕ) where
-  pub below_start : (n : ℕ) → ((x i v : ℕ) → x < n → i < length w → P x i v → ⊥) → Raised (Below P n) w w
-  below_start n none = raised_none (Below P n) w (λ i v h p. none p.0 i v p.1 h p.2)
-
   -- those from n to n + t, of which only n offers
   pub below_more : (n t : ℕ) (w' w'' : List ℕ) → 0 < t → ((x i v : ℕ) → n < x → x < n + t → i < length w → P x i v → ⊥)
       → Raised (Below P n) w w' → Raised (P n) w' w'' → Raised (Below P (n + t)) w w''
@@ -79,22 +72,54 @@ module _ (P : ℕ → ℕ → ℕ → Type 0) (w : List ℕ) where
           pick (no a) (yes b) = absurd (none p.0 i v b p.1 h p.2)
           pick (no a) (no b) = let same : p.0 ≡ n = omega arith in inr (subst (λ (x : ℕ). P x i v) same p.2)
 
-  -- those from n to n + t, of which none offers
-  pub below_skip : (n t : ℕ) (w' : List ℕ) → ((x i v : ℕ) → n ≤ x → x < n + t → i < length w → P x i v → ⊥) → Raised (Below P n) w w' → Raised (Below P (n + t)) w w'
-  below_skip n t w' none = raised_as (Below P n) (Below P (n + t)) w w' (λ i v h p. (p.0, omega arith, p.2)) (λ i v h p. pick i v h p (dec_lt p.0 n))
-    where
-      pick : (i v : ℕ) → i < length w → (p : Below P (n + t) i v) → Dec (p.0 < n) → Below P n i v
-      pick i v h p (yes a) = (p.0, a, p.2)
-      pick i v h p (no a) = absurd (none p.0 i v (omega arith) p.1 h p.2)
+-- What ends take of it.
 
-  -- all that offer are below n
-  pub below_all : (n : ℕ) (R : ℕ → ℕ → Type 0) (w' : List ℕ) → ((x i v : ℕ) → i < length w → P x i v → R i v) → ((i v : ℕ) → i < length w → R i v → Below P n i v)
-      → Raised (Below P n) w w' → Raised R w w'
-  below_all n R w' to back = raised_as (Below P n) R w w' (λ i v h p. to p.0 i v h p.2) back
+module _ (ends : Ends) where
+  -- nothing is offered
+  pub took_none : (P : ℕ → ℕ → Type 0) (w : List ℕ) → ((i v : ℕ) → i < ends.width → P i v → ⊥) → Took ends P w w
+  took_none P w none = record { len = refl; keeps = λ j h. omega arith; offered = λ j v h p. absurd (none p.0 v p.1 p.3); only = λ j h. inl refl }
 
-pub below_at : (P : ℕ → ℕ → ℕ → Type 0) (k n : ℕ) {w w' : List ℕ} → k ≡ n → Raised (Below P k) w w' → Raised (Below P n) w w'
-below_at P k n {w} {w'} e r = subst (λ (x : ℕ). Raised (Below P x) w w') e r
+  -- the same is offered
+  pub took_as : (P R : ℕ → ℕ → Type 0) (w w' : List ℕ) → ((i v : ℕ) → i < ends.width → P i v → R i v) → ((i v : ℕ) → i < ends.width → R i v → P i v)
+      → Took ends P w w' → Took ends R w w'
+  took_as P R w w' to back = raised_as (Put ends P) (Put ends R) w w' (λ j v h p. (p.0, p.1, p.2, to p.0 v p.1 p.3)) (λ j v h p. (p.0, p.1, p.2, back p.0 v p.1 p.3))
 
--- a tile that is raised keeps its room
-pub raised_room : {P : ℕ → ℕ → Type 0} {w w' : List ℕ} {k lo : ℕ} {bits : List ℕ} → Raised P w w' → Room k lo bits w → Room k lo bits w'
-raised_room r room = record { few = room.few; rows = room.rows; ends = omega (arith, r.len, room.ends) }
+  -- The offers of the numbers below n.
+
+  module _ (P : ℕ → ℕ → ℕ → Type 0) (w : List ℕ) where
+    -- a number offers to an end whose number stands at j
+    abbrev Some : ℕ → ℕ → ℕ → Type 0
+    Some x = Put ends (P x)
+
+    -- first to which end, then which number offers; and the other way round
+    ends_first : (n j v : ℕ) → Below Some n j v → Put ends (Below P n) j v
+    ends_first n j v p = (p.2.0, p.2.1, p.2.2, (p.0, p.1, p.2.3))
+
+    ends_last : (n j v : ℕ) → Put ends (Below P n) j v → Below Some n j v
+    ends_last n j v p = (p.3.0, p.3.1, (p.0, p.1, p.2, p.3.2))
+
+    -- those from n to n + t, of which only n offers
+    pub took_more : (n t : ℕ) (w' w'' : List ℕ) → 0 < t → ((x i v : ℕ) → n < x → x < n + t → i < ends.width → P x i v → ⊥)
+        → Took ends (Below P n) w w' → Took ends (P n) w' w'' → Took ends (Below P (n + t)) w w''
+    took_more n t w' w'' pos none done new =
+        raised_as _ _ _ _ (λ j v h. ends_first (n + t) j v) (λ j v h. ends_last (n + t) j v)
+        (below_more Some w n t w' w'' pos (λ x j v low high h p. none x p.0 v low high p.1 p.3) (raised_as _ _ _ _ (λ j v h. ends_last n j v) (λ j v h. ends_first n j v) done) new)
+
+    pub took_next : (n : ℕ) (w' w'' : List ℕ) → Took ends (Below P n) w w' → Took ends (P n) w' w'' → Took ends (Below P (n + 1)) w w''
+    took_next n w' w'' = took_more n 1 w' w'' (omega arith) (λ x i v h j. absurd (omega arith))
+
+    -- those from n to n + t, of which none offers
+    pub took_skip : (n t : ℕ) (w' : List ℕ) → ((x i v : ℕ) → n ≤ x → x < n + t → i < ends.width → P x i v → ⊥) → Took ends (Below P n) w w' → Took ends (Below P (n + t)) w w'
+    took_skip n t w' none = took_as (Below P n) (Below P (n + t)) w w' (λ i v h p. (p.0, omega arith, p.2)) (λ i v h p. pick i v h p (dec_lt p.0 n))
+      where
+        pick : (i v : ℕ) → i < ends.width → (p : Below P (n + t) i v) → Dec (p.0 < n) → Below P n i v
+        pick i v h p (yes a) = (p.0, a, p.2)
+        pick i v h p (no a) = absurd (none p.0 i v (omega arith) p.1 h p.2)
+
+    pub took_at : (k n : ℕ) (w' : List ℕ) → k ≡ n → Took ends (Below P k) w w' → Took ends (Below P n) w w'
+    took_at k n w' e r = subst (λ (x : ℕ). Took ends (Below P x) w w') e r
+
+-- the ends of a tile, whose row is raised position by position
+pub took_tile : (lo width : ℕ) (P : ℕ → ℕ → Type 0) (w w' : List ℕ) → length w ≡ width → Took (tile_ends lo width) P w w' → Raised P w w'
+took_tile lo width P w w' e =
+    raised_as (Put (tile_ends lo width) P) P w w' (λ j v h p. subst (λ (i : ℕ). P i v) p.2 p.3) (λ j v h p. (j, omega (arith, e), refl, p))

@@ -2,7 +2,6 @@
 use Rattle.std.specs.Prelude.{◌≡◌, ◌⊎◌, Bool, true, false, List, ℕ, ◌+◌, ◌*◌, ◌/◌, ◌%◌, ◌≤◌, ◌<◌, length, take, drop}
 use Rattle.layers.specs.declared.Shape.{Shape}
 use Rattle.layers.specs.Step.{look, total, period, tasks_of}
-use Rattle.memory.specs.Map.{mark_numbers}
 use Rattle.marks.specs.Marks.{marked}
 
 -- w' holds at each position the largest of what w held and of the numbers v that P offers there
@@ -11,6 +10,25 @@ pub record Raised (P : ℕ → ℕ → Type 0) (w w' : List ℕ) : Type 0 where
   pub keeps : (i : ℕ) → i < length w → look w i ≤ look w' i
   pub offered : (i v : ℕ) → i < length w → P i v → v ≤ look w' i
   pub only : (i : ℕ) → i < length w → (look w' i ≡ look w i) ⊎ P i (look w' i)
+
+-- Ends that numbers are offered to: the first, how many there are, how many numbers the row has for them, and where in it that of the end lo + i stands.
+pub record Ends : Type 0 where
+  pub lo : ℕ
+  pub width : ℕ
+  pub row : ℕ
+  pub spot : ℕ → ℕ
+
+-- the ends of a tile, each with a number of its own
+abbrev pub tile_ends : ℕ → ℕ → Ends
+tile_ends lo width = record { lo = lo; width = width; row = width; spot = λ i. i }
+
+-- v is offered to an end whose number stands at j
+abbrev pub Put : Ends → (ℕ → ℕ → Type 0) → ℕ → ℕ → Type 0
+Put ends P j v = (i : ℕ) × (i < ends.width) × (ends.spot i ≡ j) × P i v
+
+-- the row takes what P offers to the ends
+abbrev pub Took : Ends → (ℕ → ℕ → Type 0) → List ℕ → List ℕ → Type 0
+Took ends P = Raised (Put ends P)
 
 -- one of the numbers below n offers v at i
 abbrev pub Below : (ℕ → ℕ → ℕ → Type 0) → ℕ → ℕ → ℕ → Type 0
@@ -29,6 +47,13 @@ pub record TimeOffer (part bits : List ℕ) (k lo l offset every d i v : ℕ) : 
   pub released : d % every ≡ offset
   pub tick : ℕ
   pub offer : TickOffer bits k lo (d + l) (look part ((d + l) % length part)) tick i v
+
+-- one of the ticks offers, and one of the mode times
+abbrev pub TicksOffer : List ℕ → ℕ → ℕ → ℕ → ℕ → ℕ → ℕ → Type 0
+TicksOffer bits k lo far n i v = (e : ℕ) × TickOffer bits k lo far n e i v
+
+abbrev pub TimesOffer : List ℕ → List ℕ → ℕ → ℕ → ℕ → ℕ → ℕ → ℕ → ℕ → Type 0
+TimesOffer part bits k lo l offset every i v = (d : ℕ) × TimeOffer part bits k lo l offset every d i v
 
 -- task j, where its LET is at most l, offers at each of its releases
 pub record TaskOffer (part tasks bits : List ℕ) (k lo l j i v : ℕ) : Type 0 where
@@ -58,9 +83,3 @@ pub record Quiet (bits : List ℕ) (k t r : ℕ) : Type 0 where
 pub record AnyMark (bits : List ℕ) (k a b : ℕ) (r : Bool) : Type 0 where
   pub none : r ≡ false → (t : ℕ) → a ≤ t → t < b → marked bits k t ≡ false
   pub some : r ≡ true → (t : ℕ) × (a ≤ t) × (t < b) × (marked bits k t ≡ true)
-
--- the marks have all their rows, mode k is one of eight, and no end is above 2,000
-pub record Room (k lo : ℕ) (bits fig : List ℕ) : Type 0 where
-  pub few : k < 8
-  pub rows : mark_numbers ≤ length bits
-  pub ends : lo + length fig ≤ 2001

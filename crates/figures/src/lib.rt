@@ -1,21 +1,15 @@
 // The figures of a module: for each end of a tile the largest demand in so many ticks before it over runs from tick 0, one length after the other.
 #![tactic(auto)]
 
-ghost use Rattle.std.specs.Prelude.{◌≡◌, ℕ, ◌+◌, ◌-◌, ◌*◌, ◌/◌, ◌^◌, ◌<◌, ◌≤◌, length};
+ghost use Rattle.std.specs.Prelude.{◌≡◌, false, ℕ, ◌+◌, ◌-◌, ◌*◌, ◌/◌, ◌^◌, ◌<◌, ◌≤◌, length};
 ghost use Rattle.layers.specs.Step.{look, total, period, TasksReady, ModeReady};
+ghost use Rattle.layers.specs.Layer.{IsLayer};
 ghost use Rattle.memory.specs.Map.{mark_row_ticks, mark_numbers};
 ghost use Rattle.figures.specs.Figures.{Growable, Grown, Added};
-ghost use Rattle.figures.specs.Offers.{Raised, TickOffer, TimeOffer, TaskOffer, ModeOffer, ShapeOffer, Quiet, AnyMark, Room};
+ghost use Rattle.figures.specs.Offers.{Ends, tile_ends, Took, Below, TicksOffer, TimesOffer, TaskOffer, ModeOffer, ShapeOffer, Quiet, AnyMark};
 
-use layers::{Shape, larger, smaller};
+use layers::Shape;
 use memory::{MARK_ROW_NUMBERS, MARK_ROW_TICKS};
-
-// a less b, and 0 where b is more.
-pub fn less(a: usize, b: usize) -> usize
-    ensures { result ≡ a - b }
-{
-    if a < b { 0 } else { a - b }
-}
 
 // How many ticks from t on are known to bear no mark of mode k: 0 exactly where t bears one.
 fn quiet(bits: &[u32], k: usize, t: usize) -> usize
@@ -23,7 +17,7 @@ fn quiet(bits: &[u32], k: usize, t: usize) -> usize
     ensures { Quiet bits.now k t result }
 {
     let rest = bits[MARK_ROW_NUMBERS * k + t / 32] >> (t % 32);
-    smaller(u32::trailing_zeros(rest) as usize, 32 - t % 32)
+    (rest.trailing_zeros() as usize).min(32 - t % 32)
 }
 
 // Whether a tick from a on and before b bears a mark of mode k.
@@ -31,6 +25,7 @@ pub fn any_mark(bits: &[u32], k: usize, a: usize, b: usize) -> bool
     requires { (k < 8) × (b ≤ mark_row_ticks) × (mark_numbers ≤ length bits.now) }
     ensures { AnyMark bits.now k a b result }
 {
+    // no range counts these ticks: how far the next step goes is what the marks tell
     let mut t = a;
     while t < b {
         let skip = quiet(bits, k, t);
@@ -50,114 +45,158 @@ fn spot(lo: usize, e: usize, far: usize) -> usize
     e + far - lo
 }
 
-// Each end that is so many ticks after a mark of mode k is raised to v.
-fn offer(fig: &mut [u32], bits: &[u32], k: usize, lo: usize, far: usize, v: u32)
-    requires { Room k lo bits.now fig.old }
-    ensures { Raised (λ i x. (e : ℕ) × TickOffer bits.now k lo far v e i x) fig.old fig.new }
-{
-    let end = less(lo + fig.len(), far);
-    let mut e = less(lo, far);
-    while e < end {
-        let skip = quiet(bits, k, e);
-        if skip == 0 {
-            let i = spot(lo, e, far);
-            fig[i] = larger(fig[i], v);
-            e += 1;
-        } else {
-            e += skip;
+// What one mode offers for one length l: its part of the layer for l ticks, its tasks, and the marks of the module.
+#[derive(Clone, Copy)]
+pub struct Offers<'a> {
+    pub part: &'a [u32],
+    pub tasks: &'a [u16],
+    pub bits: &'a [u32],
+    pub k: usize,
+    pub l: usize,
+    pub ghost some: { 0 < length part.now },
+    pub ghost few: { length part.now < 65536 },
+    pub ghost ready: { TasksReady tasks.now },
+    pub ghost rows: { mark_numbers ≤ length bits.now },
+    pub ghost mode: { k < 8 },
+    pub ghost short: { l ≤ 2000 },
+}
+
+// Ends that numbers are offered to; in a row of numbers each end has one, of its own or not.
+pub trait Takes {
+    ghost ends: { Self → Ends };
+
+    // Whether the mode may offer a number to any of them; where none can be offered no walk is made.
+    fn concerns(&self, offers: &Offers) -> bool
+        ensures { result ≡ false → (i v : ℕ) → i < (ends self.now).width → ModeOffer offers.now.part.now offers.now.tasks.now offers.now.bits.now offers.now.k (ends self.now).lo offers.now.l i v → ⊥ };
+
+    // Each end that is so many ticks after a mark of the mode is offered v.
+    fn offer(&self, row: &mut [u32], offers: &Offers, far: usize, v: u32)
+        requires { (ends self.now).row ≤ length row.old }
+        ensures { Took (ends self.now) (TicksOffer offers.now.bits.now offers.now.k (ends self.now).lo far v) row.old row.new };
+
+    // no end is above 2,000
+    ghost few: { (x : Self) → (ends x).lo + (ends x).width ≤ 2001 };
+}
+
+impl Offers<'_> {
+    // At each mode time d that leaves the offset, what the part holds of it is offered to the end l ticks later; that number stands l further on.
+    fn walk_times<T: Takes>(&self, to: &T, row: &mut [u32], offset: u16, every: u16)
+        requires { (offset < every) × ((T.ends to.now).row ≤ length row.old) }
+        ensures { Took (T.ends to.now) (TimesOffer self.now.part.now self.now.bits.now self.now.k (T.ends to.now).lo self.now.l offset every) row.old row.new }
+    {
+        let step = every as usize;
+        let first = offset as usize;
+        let mut x = layers::rest(first + self.l, self.part.len());
+        for d in (first..self.part.len()).step_by(step) {
+            to.offer(row, self, d + self.l, self.part[x]);
+            x = layers::rest(x + step, self.part.len());
+        }
+    }
+
+    // Task j, where its LET is at most l.
+    fn walk_task<T: Takes>(&self, to: &T, row: &mut [u32], j: usize)
+        requires { (j < length self.now.tasks.now / 4) × ((T.ends to.now).row ≤ length row.old) }
+        ensures { Took (T.ends to.now) (TaskOffer self.now.part.now self.now.tasks.now self.now.bits.now self.now.k (T.ends to.now).lo self.now.l j) row.old row.new }
+    {
+        let window = self.tasks[4 * j + 2] as usize;
+        if window <= self.l {
+            self.walk_times(to, row, self.tasks[4 * j], self.tasks[4 * j + 3]);
+        }
+    }
+
+    // All tasks of the mode, where it concerns any of the ends.
+    fn walk<T: Takes>(&self, to: &T, row: &mut [u32])
+        requires { (T.ends to.now).row ≤ length row.old }
+        ensures { Took (T.ends to.now) (ModeOffer self.now.part.now self.now.tasks.now self.now.bits.now self.now.k (T.ends to.now).lo self.now.l) row.old row.new }
+    {
+        if to.concerns(self) {
+            for j in 0..self.tasks.len() / 4 {
+                self.walk_task(to, row, j);
+            }
         }
     }
 }
 
-// At each mode time d of mode k that leaves the offset, what its part of the layer holds of it is offered to the end l ticks later; that number
-// stands l further on.
-fn offer_times(
-    fig: &mut [u32],
-    part: &[u32],
-    bits: &[u32],
-    k: usize,
-    lo: usize,
-    l: usize,
-    offset: u16,
-    every: u16,
-)
-    requires { (offset < every) × (l ≤ 2000) × (0 < length part.now) × (Room k lo bits.now fig.old) }
-    ensures { Raised (λ i v. (d : ℕ) × TimeOffer part.now bits.now k lo l offset every d i v) fig.old fig.new }
-{
-    let step = every as usize;
-    let mut d = offset as usize;
-    let mut x = layers::rest(d + l, part.len());
-    while d < part.len() {
-        offer(fig, bits, k, lo, d + l, part[x]);
-        d += step;
-        x = layers::rest(x + step, part.len());
-    }
-}
-
-// Task j of mode k, where its LET is at most l.
-fn offer_task(
-    fig: &mut [u32],
-    part: &[u32],
-    tasks: &[u16],
-    bits: &[u32],
-    k: usize,
-    lo: usize,
-    l: usize,
-    j: usize,
-)
-    requires { (j < length tasks.now / 4) × (look tasks.now (4 * j) < look tasks.now (4 * j + 3)) × (l ≤ 2000) × (0 < length part.now) × (Room k lo bits.now fig.old) }
-    ensures { Raised (TaskOffer part.now tasks.now bits.now k lo l j) fig.old fig.new }
-{
-    let window = tasks[4 * j + 2] as usize;
-    if window <= l {
-        let offset = tasks[4 * j];
-        offer_times(fig, part, bits, k, lo, l, offset, tasks[4 * j + 3]);
-    }
-}
-
-// All tasks of mode k.
-fn offer_tasks(
-    fig: &mut [u32],
-    part: &[u32],
-    tasks: &[u16],
-    bits: &[u32],
-    k: usize,
-    lo: usize,
-    l: usize,
-)
-    requires { (TasksReady tasks.now) × (l ≤ 2000) × (0 < length part.now) × (Room k lo bits.now fig.old) }
-    ensures { Raised (ModeOffer part.now tasks.now bits.now k lo l) fig.old fig.new }
-{
-    let n = tasks.len() / 4;
-    let mut j = 0;
-    while j < n {
-        offer_task(fig, part, tasks, bits, k, lo, l, j);
-        j += 1;
-    }
-}
-
-// Mode k of the shape, whose part of the layer begins at from. Where that ends is handed back. A mode that is never begun costs no walk.
-fn offer_mode(
-    fig: &mut [u32],
-    lo: usize,
+// Mode k of the shape, whose part of the layer begins at from. Where that ends is handed back.
+fn offer_mode<T: Takes>(
+    to: &T,
+    row: &mut [u32],
     l: usize,
     layer: &[u32],
     bits: &[u32],
-    shape: Shape,
+    shape: &Shape,
     numbers: &[u16],
     k: usize,
     from: usize,
 ) -> usize
-    requires { (from ≡ total shape.periods k) × (from + period shape k ≤ length layer.now) × (ModeReady shape numbers.now k) × (l ≤ 2000) × (Room k lo bits.now fig.old) }
-    ensures { (result ≡ total shape.periods (k + 1)) × (Raised (ShapeOffer shape numbers.now layer.now bits.now lo l k) fig.old fig.new) }
+    requires { (k < 8) × (mark_numbers ≤ length bits.now) × (from ≡ total shape.now.periods k) × (from + period shape.now k ≤ length layer.now) × (ModeReady shape.now numbers.now k) × (l ≤ 2000) × ((T.ends to.now).row ≤ length row.old) }
+    ensures { (result ≡ total shape.now.periods (k + 1)) × (Took (T.ends to.now) (ShapeOffer shape.now numbers.now layer.now bits.now (T.ends to.now).lo l k) row.old row.new) }
 {
-    let to = from + shape.periods[k] as usize;
-    let a = shape.starts[k] as usize;
-    let e = shape.starts[k + 1] as usize;
-    if any_mark(bits, k, 0, MARK_ROW_TICKS) {
-        offer_tasks(fig, &layer[from..to], &numbers[a..e], bits, k, lo, l);
+    let end = from + shape.periods[k] as usize;
+    let tasks = shape.starts[k] as usize..shape.starts[k + 1] as usize;
+    let offers = Offers {
+        part: &layer[from..end],
+        tasks: &numbers[tasks],
+        bits,
+        k,
+        l,
+    };
+    offers.walk(to, row);
+    end
+}
+
+// All modes of a module, by its layer for l ticks and its marks.
+pub fn offer_module<T: Takes>(
+    to: &T,
+    row: &mut [u32],
+    l: usize,
+    layer: &[u32],
+    bits: &[u32],
+    shape: &Shape,
+    numbers: &[u16],
+)
+    requires { (l ≤ 2000) × (mark_numbers ≤ length bits.now) × (IsLayer shape.now numbers.now l layer.now) × ((T.ends to.now).row ≤ length row.old) }
+    ensures { Took (T.ends to.now) (Below (ShapeOffer shape.now numbers.now layer.now bits.now (T.ends to.now).lo l) shape.now.modes) row.old row.new }
+{
+    let mut from = 0;
+    for k in 0..shape.modes {
+        from = offer_mode(to, row, l, layer, bits, shape, numbers, k, from);
     }
-    to
+}
+
+// The ends of a tile, each with a figure of its own.
+#[derive(Clone, Copy)]
+struct Tile {
+    lo: usize,
+    width: usize,
+    ghost few: { lo + width ≤ 2001 },
+}
+
+impl Takes for Tile {
+    ghost ends = { λ t. tile_ends t.lo t.width };
+
+    ghost few = { λ t. t.few };
+
+    // A mode that is never begun costs no walk.
+    fn concerns(&self, offers: &Offers) -> bool {
+        any_mark(offers.bits, offers.k, 0, MARK_ROW_TICKS)
+    }
+
+    fn offer(&self, row: &mut [u32], offers: &Offers, far: usize, v: u32) {
+        let end = (self.lo + self.width).saturating_sub(far);
+        // no range counts these ticks: how far the next step goes is what the marks tell
+        let mut e = self.lo.saturating_sub(far);
+        while e < end {
+            let skip = quiet(offers.bits, offers.k, e);
+            if skip == 0 {
+                let i = spot(self.lo, e, far);
+                row[i] = row[i].max(v);
+                e += 1;
+            } else {
+                e += skip;
+            }
+        }
+    }
 }
 
 // The figures for l - 1 ticks become those for l, by the layer for l ticks and the marks of the module.
@@ -173,13 +212,11 @@ pub fn raise_figures(
     requires { (1 ≤ l) × (l ≤ 2000) × (lo + length fig.old ≤ 2001) × (mark_numbers ≤ length bits.now) × (Growable shape numbers.now layer.now bits.now lo l fig.old) }
     ensures { Grown shape numbers.now layer.now bits.now lo l fig.old fig.new }
 {
-    let n = shape.modes;
-    let mut from = 0;
-    let mut k = 0;
-    while k < n {
-        from = offer_mode(fig, lo, l, layer, bits, shape, numbers, k, from);
-        k += 1;
-    }
+    let tile = Tile {
+        lo,
+        width: fig.len(),
+    };
+    offer_module(&tile, fig, l, layer, bits, &shape, numbers);
 }
 
 // Each figure is added to the cell at its place.
@@ -188,9 +225,8 @@ pub fn add_figures(cells: &mut [u32], fig: &[u32])
     requires by_index { (i : ℕ) → i < length fig.now → look cells.old i + look fig.now i < 2 ^ 32 }
     ensures { Added (length fig.now) fig.now cells.old cells.new }
 {
-    let mut i = 0;
-    while i < fig.len() {
-        cells[i] = cells[i] + fig[i];
-        i += 1;
+    // not by `iter_mut().zip(fig)`, after which no proof knows what the cells hold
+    for (i, figure) in fig.iter().enumerate() {
+        cells[i] += *figure;
     }
 }

@@ -1,34 +1,12 @@
 -- The heads of a tick, two in one number. Assumes nothing.
-use mathlib.Core.Path.{◌≡◌, refl, ◌∙◌, ap}
+use mathlib.Core.Path.{◌≡◌, ◌∙◌, ap}
 use mathlib.Core.List.{List}
 use Prim.Native.Nat.{ℕ, ◌+◌, ◌*◌, ◌/◌, ◌%◌, ◌<◌}
 use native.Mathlib.Decide.{dec_lt}
 use native.Mathlib.Omega.{arith}
-use lib.ListN.{length, set, length-set}
-use lib.Seq.{get_or-set_same, get_or-set_other}
 use borrow.Author.Tests.{eq-eqb, ne_eqb}
 use Rattle.layers.specs.Step.{look}
 use Rattle.heads.specs.Heads.{pair_at, pair_of, head_of, Packed}
-
--- One pair after the other.
-
-pub packed_none : (t : ℕ) (tops w : List ℕ) → Packed t 0 tops w w
-packed_none t tops w = record { len = refl; here = λ i l. absurd (omega arith); below = λ x l. refl; above = λ x l. refl }
-
-pub packed_more : (t n : ℕ) (tops w w' : List ℕ) → pair_at t n < length w → Packed t n tops w w' → Packed t (n + 1) tops w (set w' (pair_at t n) (pair_of tops n))
-packed_more t n tops w w' room done = record {
-  len = length-set w' (pair_at t n) (pair_of tops n) ∙ done.len;
-  here = λ i l. pick i l (dec_lt i n);
-  below = λ x l. get_or-set_other w' (pair_at t n) x (pair_of tops n) 0 (omega arith) ∙ done.below x l;
-  above = λ x l. get_or-set_other w' (pair_at t n) x (pair_of tops n) 0 (omega arith) ∙ done.above x (omega arith);
-}
-  where
-    pick : (i : ℕ) → i < n + 1 → Dec (i < n) → look (set w' (pair_at t n) (pair_of tops n)) (pair_at t i) ≡ pair_of tops i
-    pick i l (yes h) = get_or-set_other w' (pair_at t n) (pair_at t i) (pair_of tops n) 0 (omega arith) ∙ done.here i h
-    pick i l (no h) = let same : i ≡ n = omega arith in rw same (get_or-set_same w' (pair_at t n) (pair_of tops n) 0 (omega (arith, done.len)))
-
-pub packed_at : (t k n : ℕ) {tops w w' : List ℕ} → k ≡ n → Packed t k tops w w' → Packed t n tops w w'
-packed_at t k n e h = rw e at h
 
 -- Each head from its pair.
 

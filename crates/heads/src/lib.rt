@@ -17,41 +17,30 @@ pub fn counted_at(a: usize, b: usize, t: usize) -> usize
     requires { t ≤ b }
     ensures { result ≡ counted a b t }
 {
-    if a <= t {
-        return b - t;
-    }
-    0
+    if a <= t { b - t } else { 0 }
 }
 
 // What task i gains at mode time d of an instance due within l ticks.
+#[tactic(auto, unfolding(layers::specs::Step::due))]
 fn gain_of(tasks: &[u16], l: usize, d: usize, i: usize) -> u32
     requires { (i < length tasks.now / 4) × (look tasks.now (4 * i) < look tasks.now (4 * i + 3)) }
     ensures { (result ≡ due tasks.now l d i) × (result < 65536) }
 {
-    let window = tasks[4 * i + 2] as usize;
-    if l < window {
-        return 0;
+    let offset = usize::from(tasks[4 * i]);
+    let window = usize::from(tasks[4 * i + 2]);
+    let step = usize::from(tasks[4 * i + 3]);
+    if window <= l && d % step == offset {
+        u32::from(tasks[4 * i + 1])
+    } else {
+        0
     }
-    let offset = tasks[4 * i] as usize;
-    let step = tasks[4 * i + 3] as usize;
-    if d % step == offset {
-        return tasks[4 * i + 1] as u32;
-    }
-    0
 }
 
 fn gains_of(tasks: &[u16], l: usize, d: usize) -> u32
     requires { (TasksReady tasks.now) × (length tasks.now < 65536) }
     ensures { result ≡ sum_below (due tasks.now l d) (length tasks.now / 4) }
 {
-    let n = tasks.len() / 4;
-    let mut sum = 0;
-    let mut i = 0;
-    while i < n {
-        sum += gain_of(tasks, l, d, i);
-        i += 1;
-    }
-    sum
+    (0..tasks.len() / 4).map(|i| gain_of(tasks, l, d, i)).sum()
 }
 
 // What the state of mode k at mode time d gains of instances due within l ticks.
@@ -59,12 +48,12 @@ pub fn gain_at(k: usize, d: usize, l: usize, shape: Shape, numbers: &[u16]) -> u
     requires { (Tells shape numbers.now) × (k < shape.modes) }
     ensures { (result ≤ 16384) × (Each shape numbers.now (λ m. result ≡ gain m (at k d) 0 l)) }
 {
-    let a = shape.starts[k] as usize;
-    let e = shape.starts[k + 1] as usize;
-    gains_of(&numbers[a..e], l, d)
+    let from = usize::from(shape.starts[k]);
+    let to = usize::from(shape.starts[k + 1]);
+    gains_of(&numbers[from..to], l, d)
 }
 
-// Two heads in one number.
+// Two heads in one number: the lent memory is fixed, and has no room for eight of them at each of 2,000 ticks.
 fn put_pair(work: &mut [u32], at: usize, low: u32, high: u32)
     requires { at < length work.old }
     ensures { work.new ≡ set work.old at (low % 65536 + 65536 * (high % 65536)) }
@@ -77,10 +66,8 @@ fn pack(work: &mut [u32], t: usize, tops: &[u32; 8])
     requires { (t ≤ 2000) × (work_numbers ≤ length work.old) }
     ensures { Packed t 4 tops.now work.old work.new }
 {
-    let mut i = 0;
-    while i < 4 {
+    for i in 0..4 {
         put_pair(work, HEADS_FROM + (4 * t + i), tops[2 * i], tops[2 * i + 1]);
-        i += 1;
     }
 }
 
@@ -98,9 +85,7 @@ fn begin_at(work: &mut [u32], a: usize, b: usize, shape: Shape, numbers: &[u16])
     requires { (Tells shape numbers.now) × (b ≤ 2000) × (work_numbers ≤ length work.old) }
     ensures { (BackTo shape numbers.now a b b work.new) × (Kept work.old work.new) }
 {
-    let n = shape.modes;
-    let periods = shape.periods;
-    layers::clear(work, layers::states(periods, n));
+    layers::clear(work, layers::states(shape.periods, shape.modes));
     note_heads(work, b, 0, shape);
 }
 
@@ -119,21 +104,21 @@ pub fn fill_heads(work: &mut [u32], a: usize, b: usize, shape: Shape, numbers: &
     ensures { (Filled shape numbers.now a b work.new) × (Kept work.old work.new) }
 {
     begin_at(work, a, b, shape, numbers);
-    let mut t = b;
-    while 0 < t {
-        t -= 1;
+    for t in (0..b).rev() {
         back_to(work, a, b, t, shape, numbers);
     }
 }
 
 // The head of mode j at tick t.
+#[tactic(auto, unfolding(crate::specs::Heads::head_of))]
 pub fn head(work: &[u32], t: usize, j: usize) -> u32
     requires { (t ≤ 2000) × (j < 8) × (work_numbers ≤ length work.now) }
     ensures { (result ≡ head_of work.now t j) × (result < 65536) }
 {
     let pair = work[HEADS_FROM + (4 * t + j / 2)];
     if j % 2 == 0 {
-        return pair % 65536;
+        pair % 65536
+    } else {
+        pair / 65536
     }
-    pair / 65536
 }

@@ -14,10 +14,10 @@ use Rattle.format.specs.Refusal.{bytes_in, Front}
 use Rattle.format.proofs.Sizes.{Small, small, sound_size, length_bytes}
 use Rattle.format.proofs.Judging.{Next, tested_next, front_fits, refused_there, closed_there}
 use Rattle.format.proofs.RoundTrip.{front_sound, ended_listed}
+use Rattle.std.specs.Prelude.{Result, Ok, Err}
+use Rattle.judge.specs.declared.Refusal.{Refusal}
 use Rattle.judge.specs.declared.Sheet.{Sheet}
-use Rattle.judge.specs.declared.Test.TheVariants.{Sound, Fault}
-use Rattle.judge.specs.declared.Turn.{Turn}
-use Rattle.judge.specs.Told.{told_accepted, tells_of}
+use Rattle.judge.specs.Told.{number_of, told_accepted, tells_of}
 use Rattle.judge.specs.Reading.{horizon_read, Reads, Within, Turned, Steps}
 
 pub record CameTo (bs : List ℕ) (st : Sheet) : Type 0 where
@@ -57,44 +57,36 @@ module _ (bs : List ℕ) (st : Sheet) (r : CameTo bs st) where
   open_end g = sym r.state.ended ∙ g
 
   -- one step on
-  module _ (g : st.ended ≡ false) (t : Turn) (s : Steps bs st t) where
-    by_test : (x : Tested) → tested bs st.at r.read ≡ x → Turned bs st t r.read x
-    by_test x e = subst (Turned bs st t r.read) e (s r.read r.state)
+  module _ (g : st.ended ≡ false) where
+    by_test : (t : Result Sheet Refusal) → Steps bs st t → (x : Tested) → tested bs st.at r.read ≡ x → Turned bs st t r.read x
+    by_test t s x e = subst (Turned bs st t r.read) e (s r.read r.state)
 
     next_test : (x : Tested) → tested bs st.at r.read ≡ x → Next bs r.read x
     next_test x e =
         subst (Next bs r.read) (ap (λ p. tested bs p r.read) (sym r.state.at) ∙ e) (tested_next bs r.read r.front (open_end g))
 
     -- a sound record leads on, within the bytes
-    pub goes_on : t.test ≡ Sound → CameTo bs t.next × (st.at < t.next.at) × (t.next.at ≤ length bs)
+    pub goes_on : (n : Sheet) → Steps bs st (Ok n) → CameTo bs n × (st.at < n.at) × (n.at ≤ length bs)
     unfolding Turned
-    goes_on e = pick (tested bs st.at r.read) refl
+    goes_on n s = pick (tested bs st.at r.read) refl
       where
-        pick : (x : Tested) → tested bs st.at r.read ≡ x → CameTo bs t.next × (st.at < t.next.at) × (t.next.at ≤ length bs)
-        pick (fault n) q =
-            let f : t.test ≡ Fault n st.at = by_test (fault n) q in
-            let z : ◌≡◌ {A = ℕ} 0 1 = cc in
-            absurd (omega arith)
+        pick : (x : Tested) → tested bs st.at r.read ≡ x → CameTo bs n × (st.at < n.at) × (n.at ≤ length bs)
+        pick (fault k) q = absurd (by_test (Ok n) s (fault k) q)
         pick (sound x) q =
             let f : Front bs (x ∷ r.read) = next_test (sound x) q in
-            let h : Reads bs t.next (x ∷ r.read) = (by_test (sound x) q).1 in
+            let h : Reads bs n (x ∷ r.read) = by_test (Ok n) s (sound x) q in
             (record { read = x ∷ r.read; front = f; state = h }, omega (arith, r.state.at), omega (arith, front_fits bs (x ∷ r.read) f))
 
     -- a fault is the refusal
-    pub is_refused : (n p : ℕ) → t.test ≡ Fault n p → judgement bs ≡ refused n p
+    pub is_refused : (f : Refusal) → Steps bs st (Err f) → judgement bs ≡ refused (number_of f.fault) f.place
     unfolding Turned
-    is_refused n p e = pick (tested bs st.at r.read) refl
+    is_refused f s = pick (tested bs st.at r.read) refl
       where
-        pick : (x : Tested) → tested bs st.at r.read ≡ x → judgement bs ≡ refused n p
+        pick : (x : Tested) → tested bs st.at r.read ≡ x → judgement bs ≡ refused (number_of f.fault) f.place
         pick (fault m) q =
-            let f : t.test ≡ Fault m st.at = by_test (fault m) q in
-            let number : m ≡ n = cc in
-            let place : st.at ≡ p = cc in
-            refused_there bs n p r.read r.front (sym place ∙ r.state.at) (open_end g) (rw (← place, ← number) q)
-        pick (sound x) q =
-            let f : t.test ≡ Sound = (by_test (sound x) q).0 in
-            let z : ◌≡◌ {A = ℕ} 0 1 = cc in
-            absurd (omega arith)
+            let h : (number_of f.fault ≡ m) × (f.place ≡ st.at) = by_test (Err f) s (fault m) q in
+            refused_there bs (number_of f.fault) f.place r.read r.front (h.1 ∙ r.state.at) (open_end g) (rw (h.1, h.0) q)
+        pick (sound x) q = absurd (by_test (Err f) s (sound x) q)
 
   -- EN is read
   module _ (e : st.ended ≡ true) where

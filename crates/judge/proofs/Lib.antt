@@ -1,4 +1,4 @@
-pub mod Multiples
+pub mod Ranges
 pub mod Turns
 pub mod CameTo
 pub mod JudgedLaws

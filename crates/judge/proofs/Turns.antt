@@ -1,15 +1,18 @@
 -- The tests of one record, told by the state that stands for the records before it, and what the state knows of the open mode. Assumes nothing.
 use mathlib.Core.Path.{◌≡◌, refl, sym, ◌∙◌, ap}
-use mathlib.Core.Bool.{Bool, true, false, not, ◌||◌, and-false, and-eq-true_iff, false≢true}
+use mathlib.Core.Bool.{Bool, true, false, not, ◌||◌, and-true, and-false, and_comm, and-eq-true_iff, false≢true}
 use mathlib.Core.Option.{none, some}
-use mathlib.Core.List.{List, [], ◌∷◌}
+use mathlib.Core.List.{List, [], ◌∷◌, map}
 use Prim.Native.Nat.{ℕ, zero, suc, ◌+◌, ◌*◌, ◌≤◌, ◌<◌}
+use Rattle.std.specs.Prelude.{Result, Ok, Err}
+use Rattle.std.specs.List.{list_all, range_with_len}
+use Rattle.std.proofs.lemmas.List.Folds.{list_all-append, list_all-map}
 use native.Mathlib.Numerals.{add-one}
 use native.Mathlib.Omega.{arith}
 use lib.Dec.{leb, ltb, eqb}
 use lib.ListN.{length, get_or, set, replicate, length-set}
 use lib.Seq.{get_or-set_same, get_or-set_other}
-use borrow.Author.Tests.{leb-true, eqb-true, eqb-false, ne_eqb, ltb-true, lt-ltb, not-true, not-false}
+use borrow.Author.Tests.{leb-true, eqb-true, eqb-false, ne_eqb, ltb-true, lt-ltb}
 use Rattle.model.specs.Sheet.{Task, Switch, named}
 use Rattle.model.specs.Limits.{max_modes}
 use Rattle.format.specs.Record.{Mark, HZ, ML, MD, TK, switch, EN, Record, hz, ml, md, tk, sw, en, mark_of, size, task_at, mark_at, record_at}
@@ -18,17 +21,12 @@ use Rattle.format.specs.Judgement.{tested}
 use Rattle.format.specs.Refusal.{Whole}
 use Rattle.format.proofs.Judging.{tested_short, tested_marked, tested_cut, tested_whole}
 use Rattle.judge.specs.declared.Sheet.{Sheet}
-use Rattle.judge.specs.declared.Test.TheVariants.{Sound, Fault}
-use Rattle.judge.specs.declared.Turn.{Turn}
+use Rattle.judge.specs.declared.Fault.{Fault}
+use Rattle.judge.specs.declared.Fault.TheVariants.{CutShort, UnknownMark, OutOfOrder, PastCount}
+use Rattle.judge.specs.declared.Refusal.{Refusal}
+use Rattle.judge.specs.Told.{number_of, refusal}
+use Rattle.judge.proofs.Ranges.{number_more}
 use Rattle.judge.specs.Reading.{order_kept, tasks_at, switch_kept, TaskNext, Reads, Room, row, Turned, judged}
-
--- A test that the code made, and its answer.
-
-pub said_no : {b t : Bool} → b ≡ t → not b ≡ true → t ≡ false
-said_no {b} e n = sym e ∙ not-true b n
-
-pub said_yes : {b t : Bool} → b ≡ t → not b ≡ false → t ≡ true
-said_yes {b} e n = sym e ∙ not-false b n
 
 -- Order.
 
@@ -66,37 +64,37 @@ target_in bs st w e = omega (arith, ltb-true, simp and-eq-true_iff at e)
 
 -- The tests of one record, in their order.
 
-module _ (bs : List ℕ) (st : Sheet) (t : Turn) (rs : List Record) where
-  pub no_bytes : length bs < st.at + 2 → t.test ≡ Fault 1 st.at → Turned bs st t rs (tested bs st.at rs)
+module _ (bs : List ℕ) (st : Sheet) (f : Refusal) (rs : List Record) where
+  pub no_bytes : length bs < st.at + 2 → f ≡ refusal CutShort st.at → Turned bs st (Err f) rs (tested bs st.at rs)
   unfolding Turned
-  no_bytes l f = rw (tested_short bs st.at rs l) f
+  no_bytes l e = rw (tested_short bs st.at rs l, e) (refl, refl)
 
-  pub no_mark : st.at + 2 ≤ length bs → mark_at bs st.at ≡ none → t.test ≡ Fault 2 st.at → Turned bs st t rs (tested bs st.at rs)
+  pub no_mark : st.at + 2 ≤ length bs → mark_at bs st.at ≡ none → f ≡ refusal UnknownMark st.at → Turned bs st (Err f) rs (tested bs st.at rs)
   unfolding Turned
-  no_mark l e f = rw (tested_marked bs st.at rs l, e) f
+  no_mark l n e = rw (tested_marked bs st.at rs l, n, e) (refl, refl)
 
-  pub cut_short : (m : Mark) → st.at + 2 ≤ length bs → mark_at bs st.at ≡ some m → length bs < st.at + size m → t.test ≡ Fault 1 st.at
-      → Turned bs st t rs (tested bs st.at rs)
+  pub cut_short : (m : Mark) → st.at + 2 ≤ length bs → mark_at bs st.at ≡ some m → length bs < st.at + size m → f ≡ refusal CutShort st.at
+      → Turned bs st (Err f) rs (tested bs st.at rs)
   unfolding Turned
-  cut_short m l e c f = rw (tested_cut bs st.at rs m l e c) f
+  cut_short m l n c e = rw (tested_cut bs st.at rs m l n c, e) (refl, refl)
 
-  module _ (m : Mark) (w : Whole bs st.at m) (h : Reads bs st rs) where
-    pub out_of_order : order_kept m st ≡ false → t.test ≡ Fault 3 st.at → Turned bs st t rs (tested bs st.at rs)
-    unfolding Turned
-    out_of_order o f = rw (tested_whole bs st.at rs m w, ← order_same bs st rs h m, o) f
+module _ (bs : List ℕ) (st : Sheet) (t : Result Sheet Refusal) (rs : List Record) (m : Mark) (w : Whole bs st.at m) (h : Reads bs st rs) where
+  pub out_of_order : t ≡ Err (refusal OutOfOrder st.at) → order_kept m st ≡ false → Turned bs st t rs (tested bs st.at rs)
+  unfolding Turned
+  out_of_order k o = rw (tested_whole bs st.at rs m w, ← order_same bs st rs h m, o, k) (refl, refl)
 
-    pub in_order : order_kept m st ≡ true → Turned bs st t rs (judged m (record_at m bs st.at) rs) → Turned bs st t rs (tested bs st.at rs)
-    unfolding judged
-    in_order o j = rw (tested_whole bs st.at rs m w, ← order_same bs st rs h m, o) j
+  pub in_order : order_kept m st ≡ true → Turned bs st t rs (judged m (record_at m bs st.at) rs) → Turned bs st t rs (tested bs st.at rs)
+  unfolding judged
+  in_order o j = rw (tested_whole bs st.at rs m w, ← order_same bs st rs h m, o) j
 
-module _ (bs : List ℕ) (st : Sheet) (t : Turn) (rs : List Record) (m : Mark) (r : Record) where
-  pub over_count : counted m rs ≡ false → t.test ≡ Fault 4 st.at → Turned bs st t rs (judged m r rs)
+module _ (bs : List ℕ) (st : Sheet) (f : Refusal) (rs : List Record) (m : Mark) (r : Record) where
+  pub over_count : counted m rs ≡ false → f ≡ refusal PastCount st.at → Turned bs st (Err f) rs (judged m r rs)
   unfolding Turned judged
-  over_count n f = rw n f
+  over_count n e = rw (n, e) (refl, refl)
 
-  pub out_of_rule : counted m rs ≡ true → ruled r rs ≡ false → t.test ≡ Fault (field_number m) st.at → Turned bs st t rs (judged m r rs)
+  pub out_of_rule : counted m rs ≡ true → ruled r rs ≡ false → (k : Fault) → number_of k ≡ field_number m → f ≡ refusal k st.at → Turned bs st (Err f) rs (judged m r rs)
   unfolding Turned judged
-  out_of_rule n v f = rw (n, v) f
+  out_of_rule n v k q e = rw (n, v, e) (q, refl)
 
 -- The tasks of the open mode.
 
@@ -107,23 +105,18 @@ task_is bs p k e = cc
 -- one task more, at the place behind them
 tasks_more : (bs : List ℕ) (st : Sheet) (rs : List Record) → Reads bs st rs → st.at ≡ st.from + 10 * st.held
     → tasks_at bs st.from (st.held + 1) ≡ task_at bs st.at ∷ tasks_read rs
-tasks_more bs st rs h e = rw (add-one, ← e, h.tasks_there)
+tasks_more bs st rs h e = rw (add-one st.held, ← e, h.tasks_there)
 
-module _ (q : Task → Bool) (bs : List ℕ) (p i : ℕ) where
-  -- one task more passes the test
-  pub each_goes : each q (tasks_at bs p i) ≡ true → q (task_at bs (p + 10 * i)) ≡ true → each q (tasks_at bs p (i + 1)) ≡ true
-  each_goes e d = rw (add-one, d, e)
-
-  -- one that does not decides
-  pub each_fails : (n : ℕ) → i < n → q (task_at bs (p + 10 * i)) ≡ false → each q (tasks_at bs p n) ≡ false
-  each_fails zero l d = absurd (omega arith)
-  each_fails (suc n) l d = pick (eqb i n) refl (λ h. each_fails n h d)
-    where
-      pick : (b : Bool) → eqb i n ≡ b → (i < n → each q (tasks_at bs p n) ≡ false) → each q (tasks_at bs p (suc n)) ≡ false
-      pick true e next = rw (← eqb-true i n e, d)
-      pick false e next =
-          let other : i ≡ n → ⊥ = eqb-false i n e in
-          rw (next (omega arith), and-false)
+-- a test of the n tasks from the place p on, by their numbers
+pub each_task : (q : Task → Bool) (bs : List ℕ) (p n : ℕ) → list_all (λ i. q (task_at bs (p + 10 * i))) (range_with_len 0 n) ≡ each q (tasks_at bs p n)
+each_task q bs p n = sym (list_all-map q (λ i. task_at bs (p + 10 * i)) (range_with_len 0 n)) ∙ all n
+  where
+    all : (n : ℕ) → list_all q (map (λ i. task_at bs (p + 10 * i)) (range_with_len 0 n)) ≡ each q (tasks_at bs p n)
+    all zero = refl
+    all (suc n) =
+        ap (list_all q) (number_more (λ i. task_at bs (p + 10 * i)) 0 n n (omega arith))
+        ∙ list_all-append q (map (λ i. task_at bs (p + 10 * i)) (range_with_len 0 n)) (task_at bs (p + 10 * n) ∷ [])
+        ∙ rw (all n, and-true (q (task_at bs (p + 10 * n)))) (and_comm (each q (tasks_at bs p n)) (q (task_at bs (p + 10 * n))))
 
 -- The targets that are named in the open mode.
 
@@ -185,9 +178,9 @@ reads_next bs st rs h g (en n) o f =
     let next : TaskNext (after (en n) st) (en n ∷ rs) = λ g' o'. absurd (false≢true (sym g')) in
     search (arith, next)
 
-pub all_right : (bs : List ℕ) (st : Sheet) (t : Turn) (rs : List Record) (m : Mark) (r : Record) → mark_of r ≡ m → Room m bs st → counted m rs ≡ true → ruled r rs ≡ true
-    → Reads bs st rs → Fits r bs st → (t.test ≡ Sound) × (t.next ≡ after r st) → Turned bs st t rs (judged m r rs)
+pub all_right : (bs : List ℕ) (st : Sheet) (n : Sheet) (rs : List Record) (m : Mark) (r : Record) → mark_of r ≡ m → Room m bs st → counted m rs ≡ true → ruled r rs ≡ true
+    → Reads bs st rs → Fits r bs st → n ≡ after r st → Turned bs st (Ok n) rs (judged m r rs)
 unfolding Turned judged
 all_right bs st t rs m r is w n v h f e =
     let order : ordered (mark_of r) rs ≡ true = rw is (sym (order_same bs st rs h m) ∙ w.order) in
-    rw (n, v) (e.0, rw e.1 (reads_next bs st rs h w.within.going r order f))
+    rw (n, v) (rw e (reads_next bs st rs h w.within.going r order f))

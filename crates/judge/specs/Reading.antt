@@ -1,5 +1,5 @@
 -- How what the code has read stands for the records read so far, and what a step of the code has to make of it. Assumes nothing.
-use Rattle.std.specs.Prelude.{◌≡◌, Bool, true, false, not, ◌&&◌, List, [], ◌∷◌, ℕ, zero, suc, ◌+◌, ◌*◌, ◌≤◌, ltb, eqb, length, get_or}
+use Rattle.std.specs.Prelude.{◌≡◌, Option as CodeOption, Some, None, Result, IsOkAnd, IsErrAnd, Bool, true, false, not, ◌&&◌, List, [], ◌∷◌, ℕ, zero, suc, ◌+◌, ◌*◌, ◌≤◌, ltb, eqb, length, get_or}
 use Rattle.std.proofs.Math.Option.{Option, none, some}
 use Rattle.model.specs.Sheet.{Task, Kind, SW, SX, Switch, named}
 use Rattle.model.specs.Limits.{max_modules, max_modes, max_mode_tasks, max_tasks, max_switches, max_bytes}
@@ -12,11 +12,9 @@ use Rattle.judge.specs.declared.Kind.TheVariants.{Sw, Sx}
 use Rattle.judge.specs.declared.Mark.{Mark as CodeMark}
 use Rattle.judge.specs.declared.Mark.TheVariants.{Hz, Ml, Md, Tk, Switch as SwitchMark, En}
 use Rattle.judge.specs.declared.Switch.{Switch as CodeSwitch}
-use Rattle.judge.specs.declared.Found.{Found}
-use Rattle.judge.specs.declared.Found.TheVariants.{Listed, Unlisted}
-use Rattle.judge.specs.declared.Test.TheVariants.{Sound, Fault}
+use Rattle.judge.specs.declared.Refusal.{Refusal}
 use Rattle.judge.specs.declared.Sheet.{Sheet}
-use Rattle.judge.specs.declared.Turn.{Turn}
+use Rattle.judge.specs.Told.{number_of}
 
 -- The code's kinds, marks and switches.
 
@@ -32,9 +30,9 @@ marked Tk = TK
 marked (SwitchMark k) = switch (kind_of k)
 marked En = EN
 
-abbrev pub found : Found → Option Mark
-found (Listed m) = some (marked m)
-found Unlisted = none
+abbrev pub found : CodeOption CodeMark → Option Mark
+found (Some m) = some (marked m)
+found None = none
 
 abbrev pub switch_of : CodeSwitch → Switch
 switch_of w = record { kind = kind_of w.kind; target = w.target; period = w.period }
@@ -147,18 +145,18 @@ onward bytes st =
     row st bytes st.horizon st.modules st.modes st.tasks st.switches st.stated st.seen st.period st.from st.held st.switching st.ended st.named
 
 -- the turn t is what the tests of the record after rs say: the fault's number at this place, or the records with this one
-unfoldable pub Turned : List ℕ → Sheet → Turn → List Record → Tested → Type 0
-Turned bs st t rs (fault n) = t.test ≡ Fault n st.at
-Turned bs st t rs (sound r) = (t.test ≡ Sound) × Reads bs t.next (r ∷ rs)
+unfoldable pub Turned : List ℕ → Sheet → Result Sheet Refusal → List Record → Tested → Type 0
+Turned bs st t rs (fault n) = IsErrAnd t (λ r. (number_of r.fault ≡ n) × (r.place ≡ st.at))
+Turned bs st t rs (sound r) = IsOkAnd t (λ next. Reads bs next (r ∷ rs))
 
 -- counts (4) and values (5, 6, 7) of a record of this mark
 unfoldable pub judged : Mark → Record → List Record → Tested
 judged m r rs = or_fault (counted m rs) 4 (or_fault (ruled r rs) (field_number m) (sound r))
 
 -- a record of this mark, whole and in order, is judged for whatever records the state stands for
-abbrev pub Judges : Mark → List ℕ → Sheet → Turn → Type 0
+abbrev pub Judges : Mark → List ℕ → Sheet → Result Sheet Refusal → Type 0
 Judges m bs st t = (rs : List Record) → Reads bs st rs → Turned bs st t rs (judged m (record_at m bs st.at) rs)
 
 -- whatever is at the state's place is
-abbrev pub Steps : List ℕ → Sheet → Turn → Type 0
+abbrev pub Steps : List ℕ → Sheet → Result Sheet Refusal → Type 0
 Steps bs st t = (rs : List Record) → Reads bs st rs → Turned bs st t rs (tested bs st.at rs)

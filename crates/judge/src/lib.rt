@@ -1,31 +1,89 @@
 // Judges the bytes of a timing sheet, record by record from the front.
 #![tactic(auto)]
 
-ghost use Rattle.std.specs.Prelude.{◌≡◌, List, [], ℕ, ◌+◌, ◌*◌, ◌≤◌, length};
+ghost use Rattle.std.specs.Fmt.{decimal};
+ghost use Rattle.std.specs.Prelude.{Some, codes, ◌++◌, ◌≡◌, List, [], ℕ, ◌+◌, ◌*◌, ◌≤◌, length};
 ghost use Rattle.model.specs.Limits.{max_modes, max_bytes};
-ghost use Rattle.format.specs.Record.{HZ, ML, MD, TK, switch, EN, sw, size, mark_coded, mark_at, record_at};
+ghost use Rattle.format.specs.Record.{HZ, ML, MD, TK, switch, EN, sw, size, mark_at, record_at};
 ghost use Rattle.format.specs.Rules.{between, divides, task_ruled, splits, keeps_whole, each, kind_ruled};
 ghost use Rattle.format.specs.Judgement.{judgement};
 ghost use Rattle.place.specs.Numbers.{task_of};
-ghost use Rattle.judge.specs.Told.{told, tells_of};
+ghost use Rattle.judge.specs.Told.{number_of, refusal, told, tells_of};
 ghost use Rattle.judge.specs.Reading.{kind_of, marked, found, switch_of, order_kept, tasks_at, switch_kept, onward, Reads, Within, Room, Judges, Steps};
 
 use place::Task;
+use std::error::Error;
+use std::fmt;
 
-// The judgement of a sheet.
-#[derive(Clone, Copy)]
-pub enum Judged {
-    Refused {
-        number: u8,
-        place: usize,
-    },
-    Accepted {
-        modules: u16,
-        modes: u16,
-        tasks: u16,
-        switches: u16,
-        horizon: u16,
-    },
+/// Why a sheet is refused, or a call on a sound one.
+#[derive(Clone, Copy, Debug, PartialEq, Eq)]
+pub enum Fault {
+    CutShort,
+    UnknownMark,
+    OutOfOrder,
+    PastCount,
+    BadField,
+    BadSwitch,
+    BadEnd,
+    BytesAfter,
+    OutOfRange,
+    MemoryTooSmall,
+}
+
+impl Fault {
+    /// The refusal for this fault at this place.
+    pub fn at(self, place: usize) -> Refusal
+        ensures { result ≡ refusal self place }
+    {
+        Refusal { fault: self, place }
+    }
+}
+
+/// The number that a fault is told by.
+impl From<Fault> for u8 {
+    ghost from_gives = { λ fault n. n ≡ number_of fault };
+
+    fn from(fault: Fault) -> u8 {
+        match fault {
+            Fault::CutShort => 1,
+            Fault::UnknownMark => 2,
+            Fault::OutOfOrder => 3,
+            Fault::PastCount => 4,
+            Fault::BadField => 5,
+            Fault::BadSwitch => 6,
+            Fault::BadEnd => 7,
+            Fault::BytesAfter => 8,
+            Fault::OutOfRange => 9,
+            Fault::MemoryTooSmall => 10,
+        }
+    }
+}
+
+/// A refusal: the fault, and its place.
+#[derive(Clone, Copy, Debug, PartialEq, Eq)]
+pub struct Refusal {
+    pub fault: Fault,
+    pub place: usize,
+}
+
+impl fmt::Display for Refusal {
+    ghost output = { λ r. Some (codes "refused " ++ decimal (number_of r.fault) ++ codes " at " ++ decimal r.place) };
+
+    fn fmt<W: fmt::Write>(&self, f: &mut fmt::Formatter<W>) -> fmt::Result {
+        write!(f, "refused {} at {}", u8::from(self.fault), self.place)
+    }
+}
+
+impl Error for Refusal {}
+
+/// What an accepted sheet has of each kind, and its horizon.
+#[derive(Clone, Copy, Debug, PartialEq, Eq)]
+pub struct Judged {
+    pub modules: u16,
+    pub modes: u16,
+    pub tasks: u16,
+    pub switches: u16,
+    pub horizon: u16,
 }
 
 // The kind of a switch.
@@ -54,72 +112,22 @@ struct Switch {
     period: u16,
 }
 
-// What the two bytes of a mark say.
-#[derive(Clone, Copy)]
-enum Found {
-    Listed(Mark),
-    Unlisted,
-}
-
-// The outcome of one record's tests.
-#[derive(Clone, Copy)]
-enum Test {
-    Sound,
-    Fault { number: u8, place: usize },
-}
-
-// One record judged: the outcome, and what has been read where it is sound.
-#[derive(Clone, Copy)]
-struct Turn {
-    test: Test,
-    next: Sheet,
-}
-
-// The refusal numbers: those of a sheet, and those of a call on a sound one.
-const CUT_SHORT: u8 = 1;
-
-const UNKNOWN_MARK: u8 = 2;
-
-const OUT_OF_ORDER: u8 = 3;
-
-const PAST_COUNT: u8 = 4;
-
-const BAD_FIELD: u8 = 5;
-
-const BAD_SWITCH: u8 = 6;
-
-const BAD_END: u8 = 7;
-
-const BYTES_AFTER: u8 = 8;
-
-pub const OUT_OF_RANGE: u8 = 9;
-
-pub const MEMORY_TOO_SMALL: u8 = 10;
-
-// The mark whose two bytes are this number, the first one high.
-fn listed(code: u16) -> Found
-    ensures { found result ≡ mark_coded code }
-{
-    match code {
-        0x485A => Found::Listed(Mark::Hz),
-        0x4D4C => Found::Listed(Mark::Ml),
-        0x4D44 => Found::Listed(Mark::Md),
-        0x544B => Found::Listed(Mark::Tk),
-        0x5357 => Found::Listed(Mark::Switch(Kind::Sw)),
-        0x5358 => Found::Listed(Mark::Switch(Kind::Sx)),
-        0x454E => Found::Listed(Mark::En),
-        _ => Found::Unlisted,
-    }
-}
-
 // The mark at i.
-fn mark_at(s: &[u8], i: usize) -> Found
+#[tactic(auto, unfolding(format::specs::Record::mark_coded))]
+fn mark_at(s: &[u8], i: usize) -> Option<Mark>
     requires { i + 2 ≤ length s.now }
     ensures { found result ≡ mark_at s.now i }
 {
-    let high = place::byte(s, i) as u16;
-    let low = place::byte(s, i + 1) as u16;
-    listed(high * 256 + low)
+    match (place::byte(s, i), place::byte(s, i + 1)) {
+        (b'H', b'Z') => Some(Mark::Hz),
+        (b'M', b'L') => Some(Mark::Ml),
+        (b'M', b'D') => Some(Mark::Md),
+        (b'T', b'K') => Some(Mark::Tk),
+        (b'S', b'W') => Some(Mark::Switch(Kind::Sw)),
+        (b'S', b'X') => Some(Mark::Switch(Kind::Sx)),
+        (b'E', b'N') => Some(Mark::En),
+        _ => None,
+    }
 }
 
 // The switch of this kind at i.
@@ -127,12 +135,10 @@ fn switch_at(kind: Kind, s: &[u8], i: usize) -> Switch
     requires { i + size (switch (kind_of kind)) ≤ length s.now }
     ensures { sw (switch_of result) ≡ record_at (switch (kind_of kind)) s.now i }
 {
-    let target = place::field(s, i + 2);
-    let period = place::field(s, i + 4);
     Switch {
         kind,
-        target,
-        period,
+        target: place::field(s, i + 2),
+        period: place::field(s, i + 4),
     }
 }
 
@@ -141,48 +147,28 @@ fn bytes_of(m: Mark) -> usize
     ensures { (result ≡ size (marked m)) × (result ≤ 10) }
 {
     match m {
-        Mark::Hz => 4,
-        Mark::Ml => 4,
-        Mark::Md => 4,
+        Mark::Hz | Mark::Ml | Mark::Md | Mark::En => 4,
         Mark::Tk => 10,
         Mark::Switch(_) => 6,
-        Mark::En => 4,
     }
-}
-
-fn is_between(least: u16, most: u16, n: u16) -> bool
-    ensures { result ≡ between least most n }
-{
-    if n < least {
-        return false;
-    }
-    n <= most
 }
 
 // p is at least 1 and divides n.
 fn is_divisor(p: u16, n: u16) -> bool
     ensures { result ≡ divides p n }
 {
-    if p < 1 {
-        return false;
-    }
-    n % p == 0
+    1 <= p && n % p == 0
 }
 
 // The task rules, in a mode of the period mode.
+#[tactic(auto, unfolding(format::specs::Rules::task_ruled))]
 fn task_keeps(mode: u16, k: Task) -> bool
     ensures { result ≡ task_ruled mode (task_of k) }
 {
-    if k.cost < 1 {
-        return false;
-    }
-    if k.due < k.cost {
-        return false;
-    }
-    if (k.period as u32) < k.offset as u32 + k.due as u32 {
-        return false;
-    }
-    is_divisor(k.period, mode)
+    1 <= k.cost
+        && k.cost <= k.due
+        && u32::from(k.offset) + u32::from(k.due) <= u32::from(k.period)
+        && is_divisor(k.period, mode)
 }
 
 // x splits an instance of the task: it falls strictly between its release and its due tick.
@@ -191,10 +177,7 @@ fn is_split(k: Task, x: u16) -> bool
     ensures { result ≡ splits (task_of k) x }
 {
     let rest = x % k.period;
-    if rest <= k.offset {
-        return false;
-    }
-    (rest as u32) < k.offset as u32 + k.due as u32
+    k.offset < rest && u32::from(rest) < u32::from(k.offset) + u32::from(k.due)
 }
 
 // No positive multiple of p up to the mode period splits an instance of the task.
@@ -202,34 +185,19 @@ fn keeps_whole(mode: u16, p: u16, k: Task) -> bool
     requires { (1 ≤ p) × (1 ≤ k.period) }
     ensures { result ≡ keeps_whole mode p (task_of k) }
 {
-    let multiples = mode / p;
-    let mut j: u16 = 0;
-    let mut x: u16 = 0;
-    while j < multiples {
-        x = x + p;
-        if is_split(k, x) {
-            return false;
-        }
-        j = j + 1;
-    }
-    true
+    !(1..=mode / p).any(|j| is_split(k, j * p))
 }
 
 // The rule of the switch's kind for a task, in a mode of the period mode.
+#[tactic(auto, unfolding(format::specs::Rules::kind_ruled))]
 fn kind_keeps(mode: u16, w: Switch, k: Task) -> bool
     requires { 1 ≤ w.period }
     ensures { result ≡ kind_ruled (kind_of w.kind) mode w.period (task_of k) }
 {
-    let kind = w.kind;
-    match kind {
+    match w.kind {
         Kind::Sw => is_divisor(k.period, w.period),
-        Kind::Sx => {
-            // Never so of a task that was read; the rest is of a period from 1 on.
-            if k.period < 1 {
-                return false;
-            }
-            keeps_whole(mode, w.period, k)
-        }
+        // A task that was read has a period from 1 on; the rest divides by it.
+        Kind::Sx => 1 <= k.period && keeps_whole(mode, w.period, k),
     }
 }
 
@@ -317,96 +285,77 @@ impl Sheet {
         }
     }
 
-    fn refused(self, number: u8, place: usize) -> Turn
-        ensures { result.test ≡ Test.Fault number place }
-    {
-        Turn {
-            test: Test::Fault { number, place },
-            next: self,
-        }
-    }
-
     // A sound record of this mark is read.
-    fn past(mut self, m: Mark) -> Turn
+    fn past(mut self, m: Mark) -> Self
         requires { (self.at ≤ max_bytes) × (self.records ≤ max_bytes) }
-        ensures { (result.test ≡ Test.Sound) × (result.next ≡ onward (size (marked m)) self) }
+        ensures { result ≡ onward (size (marked m)) self }
     {
-        self.at = self.at + bytes_of(m);
-        self.records = self.records + 1;
-        Turn {
-            test: Test::Sound,
-            next: self,
-        }
+        self.at += bytes_of(m);
+        self.records += 1;
+        self
     }
 
-    fn horizon_record(mut self, s: &[u8]) -> Turn
+    fn horizon_record(mut self, s: &[u8]) -> Result<Self, Refusal>
         requires { Room HZ s.now self }
         ensures { Judges HZ s.now self result }
     {
-        let at = self.at;
-        let horizon = place::field(s, at + 2);
-        if !is_between(1, Self::MAX_HORIZON, horizon) {
-            return self.refused(BAD_FIELD, at);
+        let horizon = place::field(s, self.at + 2);
+        if !(1..=Self::MAX_HORIZON).contains(&horizon) {
+            return Err(Fault::BadField.at(self.at));
         }
         self.horizon = horizon;
-        self.past(Mark::Hz)
+        Ok(self.past(Mark::Hz))
     }
 
-    fn module_record(mut self, s: &[u8]) -> Turn
+    fn module_record(mut self, s: &[u8]) -> Result<Self, Refusal>
         requires { Room ML s.now self }
         ensures { Judges ML s.now self result }
     {
-        let at = self.at;
         if Self::MAX_MODULES <= self.modules {
-            return self.refused(PAST_COUNT, at);
+            return Err(Fault::PastCount.at(self.at));
         }
-        let stated = place::field(s, at + 2);
-        if !is_between(1, Self::MAX_MODES, stated) {
-            return self.refused(BAD_FIELD, at);
+        let stated = place::field(s, self.at + 2);
+        if !(1..=Self::MAX_MODES).contains(&stated) {
+            return Err(Fault::BadField.at(self.at));
         }
-        self.modules = self.modules + 1;
+        self.modules += 1;
         self.stated = stated;
         self.seen = 0;
-        self.past(Mark::Ml)
+        Ok(self.past(Mark::Ml))
     }
 
-    fn mode_record(mut self, s: &[u8]) -> Turn
+    fn mode_record(mut self, s: &[u8]) -> Result<Self, Refusal>
         requires { Room MD s.now self }
         ensures { Judges MD s.now self result }
     {
-        let at = self.at;
-        let period = place::field(s, at + 2);
-        if !is_between(1, Self::MAX_MODE_PERIOD, period) {
-            return self.refused(BAD_FIELD, at);
+        let period = place::field(s, self.at + 2);
+        if !(1..=Self::MAX_MODE_PERIOD).contains(&period) {
+            return Err(Fault::BadField.at(self.at));
         }
-        self.modes = self.modes + 1;
-        self.seen = self.seen + 1;
+        self.modes += 1;
+        self.seen += 1;
         self.period = period;
-        self.from = at + bytes_of(Mark::Md);
+        self.from = self.at + bytes_of(Mark::Md);
         self.held = 0;
         self.switching = false;
         self.named = [false; Self::MAX_MODES as usize];
-        self.past(Mark::Md)
+        Ok(self.past(Mark::Md))
     }
 
-    fn task_record(mut self, s: &[u8]) -> Turn
+    fn task_record(mut self, s: &[u8]) -> Result<Self, Refusal>
         requires { Room TK s.now self }
         ensures { Judges TK s.now self result }
     {
-        let at = self.at;
-        if Self::MAX_MODE_TASKS <= self.held {
-            return self.refused(PAST_COUNT, at);
+        if Self::MAX_MODE_TASKS <= self.held || Self::MAX_TASKS <= self.tasks {
+            return Err(Fault::PastCount.at(self.at));
         }
-        if Self::MAX_TASKS <= self.tasks {
-            return self.refused(PAST_COUNT, at);
-        }
-        let k = place::task_at(s, at);
+        let k = place::task_at(s, self.at);
         if !task_keeps(self.period, k) {
-            return self.refused(BAD_FIELD, at);
+            return Err(Fault::BadField.at(self.at));
         }
-        self.held = self.held + 1;
-        self.tasks = self.tasks + 1;
-        self.past(Mark::Tk)
+        self.held += 1;
+        self.tasks += 1;
+        Ok(self.past(Mark::Tk))
     }
 
     // The rule of the switch's kind holds for every task of the mode.
@@ -414,73 +363,57 @@ impl Sheet {
         requires { (1 ≤ w.period) × (self.from + 10 * self.held ≤ length s.now) }
         ensures { result ≡ each (kind_ruled (kind_of w.kind) self.period w.period) (tasks_at s.now self.from self.held) }
     {
-        let tasks = self.held as usize;
-        let mut i: usize = 0;
-        while i < tasks {
-            let k = place::task_at(s, self.from + 10 * i);
-            if !kind_keeps(self.period, w, k) {
-                return false;
-            }
-            i = i + 1;
-        }
-        true
+        (0..usize::from(self.held)).all(|i| kind_keeps(
+            self.period,
+            w,
+            place::task_at(s, self.from + 10 * i),
+        ))
     }
 
     // The switch rules, in the mode that is open.
+    #[tactic(auto, unfolding(crate::specs::Reading::switch_kept))]
     fn switch_keeps(self, w: Switch, s: &[u8]) -> bool
         requires { (self.from + 10 * self.held ≤ length s.now) × (self.stated ≤ max_modes) }
         ensures { result ≡ switch_kept s.now self (switch_of w) }
     {
-        if self.stated <= w.target {
-            return false;
-        }
-        if w.target + 1 == self.seen {
-            return false;
-        }
-        let k = w.target as usize;
-        if self.named[k] {
-            return false;
-        }
-        if !is_divisor(w.period, self.period) {
-            return false;
-        }
-        self.tasks_allow(w, s)
+        w.target < self.stated
+            && w.target + 1 != self.seen
+            && !self.named[usize::from(w.target)]
+            && is_divisor(w.period, self.period)
+            && self.tasks_allow(w, s)
     }
 
-    fn switch_record(mut self, kind: Kind, s: &[u8]) -> Turn
+    fn switch_record(mut self, kind: Kind, s: &[u8]) -> Result<Self, Refusal>
         requires { Room (switch (kind_of kind)) s.now self }
         ensures { Judges (switch (kind_of kind)) s.now self result }
     {
-        let at = self.at;
         if Self::MAX_SWITCHES <= self.switches {
-            return self.refused(PAST_COUNT, at);
+            return Err(Fault::PastCount.at(self.at));
         }
-        let w = switch_at(kind, s, at);
+        let w = switch_at(kind, s, self.at);
         if !self.switch_keeps(w, s) {
-            return self.refused(BAD_SWITCH, at);
+            return Err(Fault::BadSwitch.at(self.at));
         }
-        let k = w.target as usize;
-        self.named[k] = true;
-        self.switches = self.switches + 1;
+        self.named[usize::from(w.target)] = true;
+        self.switches += 1;
         self.switching = true;
-        self.past(Mark::Switch(kind))
+        Ok(self.past(Mark::Switch(kind)))
     }
 
-    fn end_record(mut self, s: &[u8]) -> Turn
+    fn end_record(mut self, s: &[u8]) -> Result<Self, Refusal>
         requires { Room EN s.now self }
         ensures { Judges EN s.now self result }
     {
-        let at = self.at;
-        let before = place::field(s, at + 2);
+        let before = place::field(s, self.at + 2);
         if before != self.records {
-            return self.refused(BAD_END, at);
+            return Err(Fault::BadEnd.at(self.at));
         }
         self.ended = true;
-        self.past(Mark::En)
+        Ok(self.past(Mark::En))
     }
 
     // 4, 5, 6, 7: the counts and the values of a record that is whole and in order.
-    fn judge_fields(self, m: Mark, s: &[u8]) -> Turn
+    fn judge_fields(self, m: Mark, s: &[u8]) -> Result<Self, Refusal>
         requires { Room (marked m) s.now self }
         ensures { Judges (marked m) s.now self result }
     {
@@ -495,54 +428,43 @@ impl Sheet {
     }
 
     // One record: cut short (1), mark (2), fields cut short (1), order (3), and then the rest.
-    fn step(self, s: &[u8]) -> Turn
+    fn step(self, s: &[u8]) -> Result<Self, Refusal>
         requires { Within s.now self }
         ensures { Steps s.now self result }
     {
-        let at = self.at;
-        if s.len() < at + 2 {
-            return self.refused(CUT_SHORT, at);
+        if s.len() < self.at + 2 {
+            return Err(Fault::CutShort.at(self.at));
         }
-        let mark = mark_at(s, at);
-        let Found::Listed(m) = mark else {
-            return self.refused(UNKNOWN_MARK, at);
+        let Some(m) = mark_at(s, self.at) else {
+            return Err(Fault::UnknownMark.at(self.at));
         };
-        let end = at + bytes_of(m);
+        let end = self.at + bytes_of(m);
         if s.len() < end {
-            return self.refused(CUT_SHORT, at);
+            return Err(Fault::CutShort.at(self.at));
         }
         if !self.in_order(m) {
-            return self.refused(OUT_OF_ORDER, at);
+            return Err(Fault::OutOfOrder.at(self.at));
         }
         self.judge_fields(m, s)
     }
 }
 
 // The judgement of any bytes.
-pub fn judge(sheet: &[u8]) -> Judged
+pub fn judge(sheet: &[u8]) -> Result<Judged, Refusal>
     ensures { told result ≡ tells_of (judgement sheet.now) }
 {
     let mut read = Sheet::new();
     while !read.ended {
-        let turn = read.step(sheet);
-        let test = turn.test;
-        if let Test::Fault { number, place } = test {
-            return Judged::Refused { number, place };
-        }
-        let next = turn.next;
-        read = next;
+        read = read.step(sheet)?;
     }
     if read.at < sheet.len() {
-        return Judged::Refused {
-            number: BYTES_AFTER,
-            place: read.at,
-        };
+        return Err(Fault::BytesAfter.at(read.at));
     }
-    Judged::Accepted {
+    Ok(Judged {
         modules: read.modules,
         modes: read.modes,
         tasks: read.tasks,
         switches: read.switches,
         horizon: read.horizon,
-    }
+    })
 }

@@ -2,7 +2,7 @@
 use mathlib.Core.Path.{◌≡◌}
 use mathlib.Core.Bool.{Bool, true, false, ◌&&◌}
 use mathlib.Core.List.{List, [], ◌∷◌}
-use Prim.Native.Nat.{ℕ, zero, suc, ◌+◌, ◌*◌, ◌%◌, ◌≤◌, ◌<◌}
+use Prim.Native.Nat.{ℕ, ◌+◌, ◌*◌, ◌%◌, ◌≤◌, ◌<◌}
 use native.Mathlib.Nat.{mod-eq_of_lt}
 use native.Mathlib.Decide.{dec_lt}
 use native.Mathlib.Omega.{arith}
@@ -13,7 +13,7 @@ use Rattle.model.specs.Sheet.{Task, Module}
 use Rattle.model.specs.WellFormed.{TaskRule, ModeRule, ModuleRule}
 use Rattle.model.specs.Run.{State, mode_at, mode_of, releases, gain_of, gain}
 use Rattle.model.proofs.Runs.{mode_rule, rule_at}
-use Rattle.layers.specs.Step.{sum_below}
+use Rattle.layers.proofs.Sums.{sum_most}
 use Rattle.layers.specs.Layer.{place, states_of}
 
 when_le : (b : Bool) (n c : ℕ) → n ≤ c → when b n ≤ c
@@ -43,10 +43,6 @@ module _ (m : Module) (ok : ModuleRule m) where
       let r : ModeRule (length m.modes) s.mode (mode_of m s) = rule_at m ok s.mode in
       omega (arith, gains_le s t b (mode_of m s).period r.least r.most (mode_of m s).tasks r.tasks)
 
-  sum_le : (f : ℕ → ℕ) (n : ℕ) → ((k : ℕ) → k < n → f k ≤ 1024) → sum_below f n ≤ 1024 * n
-  sum_le f zero h = omega arith
-  sum_le f (suc n) h = omega (arith, h n (omega arith), sum_le f n (λ k l. h k (omega arith)))
-
   pub states_bound : states_of m ≤ 8192
   unfolding place
-  states_bound = omega (arith, sum_le (λ k. (mode_at m k).period) (length m.modes) (λ k h. (mode_rule m ok k h).most), ok.most)
+  states_bound = omega (arith, sum_most (λ k. (mode_at m k).period) 1024 (length m.modes) (λ k h. (mode_rule m ok k h).most), ok.most)

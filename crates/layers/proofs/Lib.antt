@@ -1,3 +1,4 @@
+pub mod Making
 pub mod Sums
 pub mod Walks
 pub mod Parts

@@ -4,7 +4,7 @@ use mathlib.Core.List.{List, ◌++◌}
 use Prim.Native.Nat.{ℕ, ◌+◌, ◌-◌, ◌≤◌, ◌<◌}
 use native.Mathlib.Decide.{dec_lt}
 use native.Mathlib.Omega.{arith}
-use lib.ListN.{length, take, drop, set, length-set, get_or-append}
+use lib.ListN.{length, take, drop, set, get_or-append}
 use lib.Seq.{get_or-take, get_or-drop, get_or-append-add, length-take-le, get_or-set_same, get_or-set_other}
 use borrow.Rule.Slice.PartMut.{put_mid, mid_of, post_of, mid_len, same_len_mid, drop_put}
 use Rattle.layers.specs.declared.Shape.{Shape}
@@ -88,9 +88,6 @@ module _ (s : Shape) (numbers heads : List ℕ) (l n : ℕ) where
           last : (j : ℕ) → j ≡ k → (x : ℕ) → x < period s j → look w'' (total s.periods j + x) ≡ step_at s numbers heads l n w j x
           last j e = rw e (λ x i. new.here x i ∙ step_same k w w' done x)
 
-  pub stepped_at : (j k : ℕ) {w w' : List ℕ} → j ≡ k → Stepped s numbers heads l n j w w' → Stepped s numbers heads l n k w w'
-  stepped_at j k {w} {w'} e h = subst (λ (x : ℕ). Stepped s numbers heads l n x w w') e h
-
 -- a list that is filled from the front, one number more
 pub filled : (f : ℕ → ℕ) (xs : List ℕ) (n v : ℕ) → n < length xs → v ≡ f n → ((k : ℕ) → k < n → look xs k ≡ f k) → (k : ℕ) → k < n + 1 → look (set xs n v) k ≡ f k
 filled f xs n v h e all k l = pick (dec_lt k n)
@@ -100,16 +97,6 @@ filled f xs n v h e all k l = pick (dec_lt k n)
     pick (no a) = let same : k ≡ n = omega arith in rw same (get_or-set_same xs n v 0 h ∙ e)
 
 -- The first numbers become 0.
-
-pub cleared_none : (w : List ℕ) → Cleared 0 w w
-cleared_none w = record { len = refl; zeros = λ x h. absurd (omega arith); above = λ x h. refl }
-
-pub cleared_more : (n : ℕ) (w w' : List ℕ) → n < length w → Cleared n w w' → Cleared (n + 1) w (set w' n 0)
-cleared_more n w w' h c = record {
-  len = length-set w' n 0 ∙ c.len;
-  zeros = filled (λ x. 0) w' n 0 (omega (arith, c.len)) refl c.zeros;
-  above = λ x i. get_or-set_other w' n x 0 0 (omega arith) ∙ c.above x (omega arith);
-}
 
 pub cleared_at : (k n : ℕ) {w w' : List ℕ} → k ≡ n → Cleared k w w' → Cleared n w w'
 cleared_at k n {w} {w'} e h = subst (λ (x : ℕ). Cleared x w w') e h

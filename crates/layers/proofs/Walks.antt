@@ -4,14 +4,14 @@ use mathlib.Core.Bool.{Bool, true, false}
 use mathlib.Core.List.{List}
 use mathlib.Core.Logic.{◌≢◌}
 use Prim.Native.Nat.{ℕ, ◌+◌, ◌*◌, ◌/◌, ◌%◌, ◌≤◌, ◌<◌, max}
-use native.Mathlib.Nat.{mod-eq_of_lt, div-add-mod, mul-le-mul_left, add-zero}
+use native.Mathlib.Nat.{mod-eq_of_lt, add-mod_right, div-add-mod, mul-le-mul_left, add-zero}
 use native.Mathlib.Decide.{dec_lt, ℕ_discrete}
 use native.Mathlib.Omega.{arith}
 use lib.ListN.{length, set, length-set}
 use lib.Seq.{get_or-set_same, get_or-set_other}
 use native.Mathlib.Numerals.{add-one}
 use borrow.Author.Tests.{eq-eqb, ne_eqb, le-leb, lt-leb}
-use Rattle.layers.specs.Step.{look, Moved, raised, added, offer_of, offer, due_at, offered, gained}
+use Rattle.layers.specs.Step.{look, Moved, Changed, offer_of, offer, due_at, offered, gained}
 use Rattle.layers.proofs.Sums.{sum_grows}
 
 -- between i and i + t no number has i's remainder
@@ -22,77 +22,56 @@ skips t i d h k e = pick (dec_lt (i / t) (d / t))
     pick (yes l) = omega (arith, mul-le-mul_left t l, div-add-mod d t, div-add-mod i t)
     pick (no l) = let g : d / t ≤ i / t = omega arith in omega (arith, mul-le-mul_left t g, div-add-mod d t, div-add-mod i t)
 
--- a walk over the positions that leave r divided by t, each of which f changes, has come to i
-pub record Walked (t r : ℕ) (f : ℕ → ℕ) (w w' : List ℕ) (i : ℕ) : Type 0 where
+-- a walk over the positions that leave r divided by t, each of which R changes, has come to i
+pub record Walked (t r : ℕ) (R : ℕ → ℕ → Type 0) (w w' : List ℕ) (i : ℕ) : Type 0 where
+  pub here : i % t ≡ r
   pub len : length w' ≡ length w
-  pub on : (x : ℕ) → x < length w → x < i → x % t ≡ r → look w' x ≡ f (look w x)
+  pub on : (x : ℕ) → x < length w → x < i → x % t ≡ r → R (look w x) (look w' x)
   pub off : (x : ℕ) → x < length w → x % t ≢ r → look w' x ≡ look w x
   pub ahead : (x : ℕ) → x < length w → i ≤ x → look w' x ≡ look w x
 
-module _ (t r : ℕ) (f : ℕ → ℕ) (w : List ℕ) where
-  pub walk_start : r < t → Walked t r f w w r
-  walk_start h = record { len = refl; on = λ x l k e. absurd (no x k e); off = λ x l n. refl; ahead = λ x l k. refl }
+module _ (t r : ℕ) (R : ℕ → ℕ → Type 0) (w : List ℕ) where
+  pub walk_start : r < t → Walked t r R w w r
+  walk_start h = record { here = mod-eq_of_lt h; len = refl; on = λ x l k e. absurd (no x k e); off = λ x l n. refl; ahead = λ x l k. refl }
     where
       no : (x : ℕ) → x < r → x % t ≡ r → ⊥
       no x k e = let l : x < t = omega arith in omega (arith, mod-eq_of_lt l)
 
-  pub walk_step : (w' : List ℕ) (i v : ℕ) → i < length w → i % t ≡ r → v ≡ f (look w' i) → 0 < t → Walked t r f w w' i → Walked t r f w (set w' i v) (i + t)
-  walk_step w' i v hi q hv ht s = record {
+  pub walk_step : (w' : List ℕ) (i v : ℕ) → i < length w → R (look w' i) v → 0 < t → Walked t r R w w' i → Walked t r R w (set w' i v) (i + t)
+  walk_step w' i v hi hv ht s = record {
+    here = add-mod_right i t ∙ s.here;
     len = length-set w' i v ∙ s.len;
     on = λ x l k e. near x l k e (dec_lt x i) (dec_lt i x);
-    off = λ x l n. other x (λ e. n (ap (λ (y : ℕ). y % t) e ∙ q)) ∙ s.off x l n;
+    off = λ x l n. other x (λ e. n (ap (λ (y : ℕ). y % t) e ∙ s.here)) ∙ s.off x l n;
     ahead = λ x l k. other x (omega arith) ∙ s.ahead x l (omega arith);
   }
     where
       other : (x : ℕ) → x ≢ i → look (set w' i v) x ≡ look w' x
       other x n = get_or-set_other w' i x v 0 n
 
-      here : look (set w' i v) i ≡ f (look w i)
-      here = get_or-set_same w' i v 0 (omega (arith, s.len)) ∙ hv ∙ ap f (s.ahead i hi (omega arith))
+      now : R (look w i) (look (set w' i v) i)
+      now = subst (R (look w i)) (sym (get_or-set_same w' i v 0 (omega (arith, s.len)))) (subst (λ (y : ℕ). R y v) (s.ahead i hi (omega arith)) hv)
 
-      near : (x : ℕ) → x < length w → x < i + t → x % t ≡ r → Dec (x < i) → Dec (i < x) → look (set w' i v) x ≡ f (look w x)
-      near x l k e (yes a) b = other x (omega arith) ∙ s.on x l a e
-      near x l k e (no a) (yes b) = absurd (skips t i x b k (e ∙ sym q))
-      near x l k e (no a) (no b) = let same : x ≡ i = omega arith in rw same here
+      near : (x : ℕ) → x < length w → x < i + t → x % t ≡ r → Dec (x < i) → Dec (i < x) → R (look w x) (look (set w' i v) x)
+      near x l k e (yes a) b = subst (R (look w x)) (sym (other x (omega arith))) (s.on x l a e)
+      near x l k e (no a) (yes b) = absurd (skips t i x b k (e ∙ sym s.here))
+      near x l k e (no a) (no b) = let same : x ≡ i = omega arith in rw same now
 
-  pub walk_end : (u : ℕ → ℕ → ℕ) (w' : List ℕ) (i : ℕ) → length w ≤ i
-      → ((d v : ℕ) → d % t ≡ r → u d v ≡ f v) → ((d v : ℕ) → d % t ≢ r → u d v ≡ v) → Walked t r f w w' i → Moved u w w'
-  walk_end u w' i hi on off s = record { len = s.len; each = λ d l. pick d l (ℕ_discrete (d % t) r) }
-    where
-      pick : (d : ℕ) → d < length w → Dec (d % t ≡ r) → look w' d ≡ u d (look w d)
-      pick d l (yes y) = s.on d l (omega arith) y ∙ sym (on d _ y)
-      pick d l (no n) = s.off d l n ∙ sym (off d _ n)
+  pub walk_end : (w' : List ℕ) (i : ℕ) → length w ≤ i → Walked t r R w w' i → Changed t r R w w'
+  walk_end w' i hi s = record { len = s.len; on = λ x l e. s.on x l (omega arith) e; off = s.off }
 
--- The two walks.
-
-module _ (q r h : ℕ) where
-  pub raised_on : (x v : ℕ) → x % q ≡ r → raised q r h x v ≡ max v h
-  unfolding raised
-  raised_on x v e = rw (eq-eqb _ _ e)
-
-  pub raised_off : (x v : ℕ) → x % q ≢ r → raised q r h x v ≡ v
-  unfolding raised
-  raised_off x v n = rw (ne_eqb _ _ n) (omega arith)
-
-module _ (p r g : ℕ) where
-  pub added_on : (x v : ℕ) → x % p ≡ r → added p r g x v ≡ v + g
-  unfolding added
-  added_on x v e = rw (eq-eqb _ _ e)
-
-  pub added_off : (x v : ℕ) → x % p ≢ r → added p r g x v ≡ v
-  unfolding added
-  added_off x v n = rw (ne_eqb _ _ n) (add-zero v)
+-- a change, told of each position
+pub changed_moved : {t r : ℕ} {R : ℕ → ℕ → Type 0} {w w' : List ℕ} (u : ℕ → ℕ → ℕ) → Changed t r R w w' → ((x v y : ℕ) → x % t ≡ r → R v y → y ≡ u x v) → ((x v : ℕ) → x % t ≢ r → u x v ≡ v) → Moved u w w'
+changed_moved {t} {r} {R} {w} {w'} u s on off = record { len = s.len; each = λ x l. pick x l (ℕ_discrete (x % t) r) }
+  where
+    pick : (x : ℕ) → x < length w → Dec (x % t ≡ r) → look w' x ≡ u x (look w x)
+    pick x l (yes e) = on x _ _ e (s.on x l e)
+    pick x l (no n) = s.off x l n ∙ sym (off x _ n)
 
 -- One change, none, and one after another.
 
 pub moved_none : (u : ℕ → ℕ → ℕ) (w : List ℕ) → ((d v : ℕ) → u d v ≡ v) → Moved u w w
 moved_none u w h = record { len = refl; each = λ d l. sym (h d _) }
-
-pub moved_as : {u u' : ℕ → ℕ → ℕ} {w w' : List ℕ} → Moved u w w' → ((d v : ℕ) → u d v ≡ u' d v) → Moved u' w w'
-moved_as m h = record { len = m.len; each = λ d l. m.each d l ∙ h d _ }
-
-pub moved_at : (u : ℕ → ℕ → ℕ → ℕ) (k n : ℕ) {w w' : List ℕ} → k ≡ n → Moved (u k) w w' → Moved (u n) w w'
-moved_at u k n {w} {w'} e m = subst (λ (x : ℕ). Moved (u x) w w') e m
 
 pub moved_value : {u : ℕ → ℕ → ℕ} {w w' : List ℕ} → Moved u w w' → (d : ℕ) → d < length w' → look w' d ≡ u d (look w d)
 moved_value m d h = m.each d (omega (arith, m.len))
@@ -103,9 +82,13 @@ moved_more u x y w w' w'' h a b = record { len = b.len ∙ a.len; each = λ d l.
 -- One switch, and one task.
 
 module _ (listed : Bool) (q head n : ℕ) where
-  pub offer_listed : listed ≡ true → (x v : ℕ) → raised q (n % q) head x v ≡ max v (offer_of listed q head n x)
-  unfolding raised offer_of
-  offer_listed h x v = rw h
+  pub offer_on : listed ≡ true → (x v : ℕ) → x % q ≡ n % q → max v (offer_of listed q head n x) ≡ max v head
+  unfolding offer_of
+  offer_on h x v e = rw (h, eq-eqb _ _ e)
+
+  pub offer_off : listed ≡ true → (x v : ℕ) → x % q ≢ n % q → max v (offer_of listed q head n x) ≡ v
+  unfolding offer_of
+  offer_off h x v e = rw (h, ne_eqb _ _ e) (omega arith)
 
   pub offer_not : listed ≡ false → (x v : ℕ) → max v (offer_of listed q head n x) ≡ v
   unfolding offer_of
@@ -116,13 +99,13 @@ module _ (tasks : List ℕ) (l n i : ℕ) where
   abbrev Start : ℕ
   Start = (look tasks (4 * i) + (n + 1)) % look tasks (4 * i + 3)
 
-  pub due_within : look tasks (4 * i + 2) ≤ l → (x v : ℕ) → added (look tasks (4 * i + 3)) Start (look tasks (4 * i + 1)) x v ≡ v + due_at tasks l n x i
-  unfolding added due_at
-  due_within h x v = rw (le-leb _ _ h)
-
-  pub due_at_lem : (x : ℕ) → look tasks (4 * i + 2) ≤ l → x % look tasks (4 * i + 3) ≡ Start → due_at tasks l n x i ≡ look tasks (4 * i + 1)
+  pub due_on : (x : ℕ) → look tasks (4 * i + 2) ≤ l → x % look tasks (4 * i + 3) ≡ Start → due_at tasks l n x i ≡ look tasks (4 * i + 1)
   unfolding due_at
-  due_at_lem x h e = rw (le-leb _ _ h, eq-eqb _ _ e)
+  due_on x h e = rw (le-leb _ _ h, eq-eqb _ _ e)
+
+  pub due_off : look tasks (4 * i + 2) ≤ l → (x v : ℕ) → x % look tasks (4 * i + 3) ≢ Start → v + due_at tasks l n x i ≡ v
+  unfolding due_at
+  due_off h x v e = rw (le-leb _ _ h, ne_eqb _ _ e) (add-zero v)
 
   pub due_late : l < look tasks (4 * i + 2) → (x v : ℕ) → v + due_at tasks l n x i ≡ v
   unfolding due_at

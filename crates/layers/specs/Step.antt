@@ -39,13 +39,11 @@ pub record Moved (u : ℕ → ℕ → ℕ) (w w' : List ℕ) : Type 0 where
   pub len : length w' ≡ length w
   pub each : (x : ℕ) → x < length w → look w' x ≡ u x (look w x)
 
--- at least h where x, divided by q, leaves r
-unfoldable pub raised : ℕ → ℕ → ℕ → ℕ → ℕ → ℕ
-raised q r h x v = max v (when (eqb (x % q) r) h)
-
--- g more where x, divided by p, leaves r
-unfoldable pub added : ℕ → ℕ → ℕ → ℕ → ℕ → ℕ
-added p r g x v = v + when (eqb (x % p) r) g
+-- w' holds, where x divided by q leaves r, what R makes of what w held there, and elsewhere the same
+pub record Changed (q r : ℕ) (R : ℕ → ℕ → Type 0) (w w' : List ℕ) : Type 0 where
+  pub len : length w' ≡ length w
+  pub on : (x : ℕ) → x < length w → x % q ≡ r → R (look w x) (look w' x)
+  pub off : (x : ℕ) → x < length w → (x % q ≡ r → ⊥) → look w' x ≡ look w x
 
 -- A part is kept turned: after n steps the number of mode time d stands n positions further on. So a step moves no number. After step n + 1
 -- the switches of period q are open one tick after the mode times whose numbers stand where n is left, divided by q, and a task releases at

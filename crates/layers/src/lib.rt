@@ -1,9 +1,9 @@
 // The layers of a module: for each of its states the largest demand in so many ticks, one length after the other.
 #![tactic(auto)]
 
-ghost use Rattle.std.specs.Prelude.{◌≡◌, true, false, ℕ, ◌+◌, ◌*◌, ◌/◌, ◌%◌, ◌^◌, ◌<◌, ◌≤◌, min, max, length, get_or};
+ghost use Rattle.std.specs.Prelude.{◌≡◌, true, ℕ, ◌+◌, ◌*◌, ◌/◌, ◌%◌, ◌^◌, ◌<◌, ◌≤◌, min, max, length};
 ghost use Rattle.model.specs.Lists.{max_below};
-ghost use Rattle.layers.specs.Step.{look, total, period, Moved, raised, added, offer_of, due_at, offered, gained, stepped, step_at, Stepped, Cleared, TasksReady, Ready};
+ghost use Rattle.layers.specs.Step.{look, total, period, lists, Moved, Changed, offer_of, due_at, offered, gained, stepped, step_at, Stepped, Cleared, TasksReady, Ready};
 ghost use Rattle.layers.specs.Layer.{IsLayer, Advanced, Steppable, SteppedBy};
 
 // What a module is to the engine, beside its tasks.
@@ -12,30 +12,19 @@ pub struct Shape {
     pub modes: usize,
     // of mode k at k
     pub periods: [u16; 8],
-    // of mode k's switch to t at 8 * k + t: its period, and whether there is one
+    // of mode k's switch to t at 8 * k + t: its period, and whether there is one; two rows and no row of options, since document 01 names by-value rows
+    // of switch periods and `every` and `lists` read one each
     pub every: [u16; 64],
     pub listed: [bool; 64],
     // mode k's tasks are the numbers from starts[k] to starts[k + 1]
     pub starts: [u16; 9],
 }
 
-/// A module's shape, and its tasks as numbers.
+/// A module's shape, and its tasks as numbers. What works on a module takes both apart: it is proved for any slice of numbers, which this array would narrow.
 #[derive(Clone, Copy)]
 pub struct Engine {
     pub shape: Shape,
     pub numbers: [u16; 512],
-}
-
-pub fn larger(a: u32, b: u32) -> u32
-    ensures { result ≡ max a b }
-{
-    if a < b { b } else { a }
-}
-
-pub fn smaller(a: usize, b: usize) -> usize
-    ensures { result ≡ min a b }
-{
-    if a < b { a } else { b }
 }
 
 // What x leaves, divided by p; no division where x is below p.
@@ -46,30 +35,17 @@ pub fn rest(x: usize, p: usize) -> usize
     if x < p { x } else { x % p }
 }
 
-// Each position that leaves the start, divided by the step, is raised to head.
-fn raise(part: &mut [u32], start: usize, every: u16, head: u32)
-    requires { start < every }
-    ensures { Moved (raised every start head) part.old part.new }
-{
-    let step = every as usize;
-    let mut x = start;
-    while x < part.len() {
-        part[x] = larger(part[x], head);
-        x += step;
-    }
-}
-
-// The gain is added at each position that leaves the start, divided by the step.
-fn add(part: &mut [u32], start: usize, every: u16, gain: u16)
+// Each position that leaves the start, divided by the step, becomes what f makes of it.
+fn change<F: Fn(u32) -> u32>(part: &mut [u32], start: usize, every: u16, f: F)
     requires start_lt_every { start < every }
-    requires by_index { (x : ℕ) → x < length part.old → x % every ≡ start → look part.old x + gain < 2 ^ 32 }
-    ensures { Moved (added every start gain) part.old part.new }
+    requires by_index { (x : ℕ) → x < length part.old → x % every ≡ start → F.pre f (look part.old x) }
+    ensures { Changed every start (F.post f) part.old part.new }
 {
     let step = every as usize;
-    let more = gain as u32;
     let mut x = start;
+    // not for and step_by, which test twice at each step and take 1.4 times as long
     while x < part.len() {
-        part[x] = part[x] + more;
+        part[x] = f(part[x]);
         x += step;
     }
 }
@@ -80,28 +56,18 @@ fn switch(part: &mut [u32], n: usize, listed: bool, every: u16, head: u32)
     ensures { Moved (λ x v. max v (offer_of listed every head n x)) part.old part.new }
 {
     if listed {
-        raise(part, n % every as usize, every, head);
+        change(part, n % every as usize, every, |value| value.max(head));
     }
 }
 
 // All targets of mode k.
-fn switches(
-    part: &mut [u32],
-    n: usize,
-    modes: usize,
-    listed: &[bool; 64],
-    every: &[u16; 64],
-    k: usize,
-    heads: &[u32; 8],
-)
-    requires { (k < 8) × (modes ≤ 8) × ((t : ℕ) → t < modes → get_or listed.now (8 * k + t) false ≡ true → 1 ≤ look every.now (8 * k + t)) }
-    ensures { Moved (offered listed.now every.now k heads.now n modes) part.old part.new }
+fn switches(part: &mut [u32], n: usize, shape: &Shape, k: usize, heads: &[u32; 8])
+    requires { (k < 8) × (shape.now.modes ≤ 8) × ((t : ℕ) → t < shape.now.modes → lists shape.now k t ≡ true → 1 ≤ look shape.now.every (8 * k + t)) }
+    ensures { Moved (offered shape.now.listed shape.now.every k heads.now n shape.now.modes) part.old part.new }
 {
-    let mut t = 0;
-    while t < modes {
+    for t in 0..shape.modes {
         let at = 8 * k + t;
-        switch(part, n, listed[at], every[at], heads[t]);
-        t += 1;
+        switch(part, n, shape.listed[at], shape.every[at], heads[t]);
     }
 }
 
@@ -113,10 +79,10 @@ fn release(part: &mut [u32], l: usize, n: usize, tasks: &[u16], i: usize)
 {
     let window = tasks[4 * i + 2] as usize;
     if window <= l {
-        let gain = tasks[4 * i + 1];
+        let gain = tasks[4 * i + 1] as u32;
         let every = tasks[4 * i + 3];
         let start = (tasks[4 * i] as usize + (n + 1)) % every as usize;
-        add(part, start, every, gain);
+        change(part, start, every, |value| value + gain);
     }
 }
 
@@ -125,11 +91,8 @@ fn releases(part: &mut [u32], l: usize, n: usize, tasks: &[u16])
     requires by_index { (x : ℕ) → x < length part.old → gained tasks.now l n (length tasks.now / 4) x (look part.old x) < 2 ^ 32 }
     ensures { Moved (gained tasks.now l n (length tasks.now / 4)) part.old part.new }
 {
-    let count = tasks.len() / 4;
-    let mut i = 0;
-    while i < count {
+    for i in 0..tasks.len() / 4 {
         release(part, l, n, tasks, i);
-        i += 1;
     }
 }
 
@@ -139,17 +102,15 @@ fn renew(
     l: usize,
     n: usize,
     tasks: &[u16],
-    modes: usize,
-    listed: &[bool; 64],
-    every: &[u16; 64],
+    shape: &Shape,
     k: usize,
     heads: &[u32; 8],
 )
-    requires n_bound { (n ≤ 2000) × (TasksReady tasks.now) × (k < 8) × (modes ≤ 8) × ((t : ℕ) → t < modes → get_or listed.now (8 * k + t) false ≡ true → 1 ≤ look every.now (8 * k + t)) }
-    requires by_index { (x : ℕ) → x < length part.old → stepped modes listed.now every.now k tasks.now heads.now l n x (look part.old x) < 2 ^ 32 }
-    ensures { Moved (stepped modes listed.now every.now k tasks.now heads.now l n) part.old part.new }
+    requires n_bound { (n ≤ 2000) × (TasksReady tasks.now) × (k < 8) × (shape.now.modes ≤ 8) × ((t : ℕ) → t < shape.now.modes → lists shape.now k t ≡ true → 1 ≤ look shape.now.every (8 * k + t)) }
+    requires by_index { (x : ℕ) → x < length part.old → stepped shape.now.modes shape.now.listed shape.now.every k tasks.now heads.now l n x (look part.old x) < 2 ^ 32 }
+    ensures { Moved (stepped shape.now.modes shape.now.listed shape.now.every k tasks.now heads.now l n) part.old part.new }
 {
-    switches(part, n, modes, listed, every, k, heads);
+    switches(part, n, shape, k, heads);
     releases(part, l, n, tasks);
 }
 
@@ -159,29 +120,13 @@ fn step(layer: &mut [u32], l: usize, n: usize, shape: Shape, numbers: &[u16], he
     requires by_index { (k x : ℕ) → k < shape.modes → x < period shape k → step_at shape numbers.now heads.now l n layer.old k x < 2 ^ 32 }
     ensures { Stepped shape numbers.now heads.now l n shape.modes layer.old layer.new }
 {
-    let modes = shape.modes;
-    // taken out once: a shape by value would be copied for each mode
-    let listed = shape.listed;
-    let every = shape.every;
     let mut from = 0;
-    let mut k = 0;
-    while k < modes {
+    for k in 0..shape.modes {
         let to = from + shape.periods[k] as usize;
         let a = shape.starts[k] as usize;
         let e = shape.starts[k + 1] as usize;
-        renew(
-            &mut layer[from..to],
-            l,
-            n,
-            &numbers[a..e],
-            modes,
-            &listed,
-            &every,
-            k,
-            heads,
-        );
+        renew(&mut layer[from..to], l, n, &numbers[a..e], &shape, k, heads);
         from = to;
-        k += 1;
     }
 }
 
@@ -190,15 +135,12 @@ pub fn heads(layer: &[u32], n: usize, shape: Shape) -> [u32; 8]
     requires { (shape.modes ≤ 8) × (total shape.periods shape.modes ≤ length layer.now) × ((k : ℕ) → k < shape.modes → 1 ≤ period shape k) }
     ensures { (k : ℕ) → k < shape.modes → look result k ≡ look layer.now (total shape.periods k + n % period shape k) }
 {
-    let modes = shape.modes;
     let mut found = [0u32; 8];
     let mut from = 0;
-    let mut k = 0;
-    while k < modes {
+    for k in 0..shape.modes {
         let p = shape.periods[k] as usize;
         found[k] = layer[from + n % p];
         from += p;
-        k += 1;
     }
     found
 }
@@ -226,11 +168,7 @@ pub fn clear(layer: &mut [u32], count: usize)
     requires { count ≤ length layer.old }
     ensures { Cleared count layer.old layer.new }
 {
-    let mut i = 0;
-    while i < count {
-        layer[i] = 0;
-        i += 1;
-    }
+    layer[..count].fill(0);
 }
 
 // The largest of the first count numbers.
@@ -238,13 +176,7 @@ pub fn largest(layer: &[u32], count: usize) -> u32
     requires { count ≤ length layer.now }
     ensures { result ≡ max_below (look layer.now) count }
 {
-    let mut top = 0;
-    let mut i = 0;
-    while i < count {
-        top = larger(top, layer[i]);
-        i += 1;
-    }
-    top
+    layer[..count].iter().copied().max().unwrap_or(0)
 }
 
 // The sum of the first n periods: where the part of mode n begins, and of all modes how many states there are.
@@ -252,13 +184,7 @@ pub fn states(periods: [u16; 8], n: usize) -> usize
     requires { n ≤ 8 }
     ensures { (result ≡ total periods n) × (result ≤ 65535 * n) }
 {
-    let mut sum: usize = 0;
-    let mut k = 0;
-    while k < n {
-        sum += periods[k] as usize;
-        k += 1;
-    }
-    sum
+    periods[..n].iter().map(|p| *p as usize).sum()
 }
 
 // Where the number of mode time d of mode k stands in the layer after n steps.

@@ -1,11 +1,11 @@
--- Marks put together: one mark, one step after another, the strides of a switch, the targets of a mode, the modes at a tick. Assumes nothing.
-use mathlib.Core.Path.{◌≡◌, refl, sym, ap, ◌∙◌, subst}
+-- Marks put together: one mark, one step after another, the strides of a switch, the modes at a tick. Assumes nothing.
+use mathlib.Core.Path.{◌≡◌, refl, sym, ap, ◌∙◌}
 use mathlib.Core.Bool.{Bool, true, false, true≢false}
 use mathlib.Core.List.{List}
 use mathlib.Core.Logic.{◌⊎◌, inl, inr, ⊎_elim, ◌≢◌}
 use Prim.Native.Nat.{ℕ, suc, ◌+◌, ◌-◌, ◌*◌, ◌/◌, ◌%◌, ◌^◌, ◌≤◌, ◌<◌, min, max}
 use native.Mathlib.Decide.{dec_lt, ℕ_discrete as dec_eq}
-use native.Mathlib.Nat.{one-le-mul, suc-mul, le-div_iff_mul-le, mul-le-mul_right, div-mul-le_self, div-le_self}
+use native.Mathlib.Nat.{one-le-mul, suc-mul, le-div_iff_mul-le, mul-le-mul_right, div-mul-le_self}
 use native.Mathlib.Omega.{arith}
 use lib.Dec.{eqb}
 use lib.ListN.{length, get_or, set, length-set}
@@ -14,9 +14,8 @@ use lib.Bits.{bit_or}
 use borrow.Author.Tests.{eq-eqb}
 use Rattle.memory.specs.Map.{mark_row_numbers, mark_row_ticks, mark_numbers}
 use Rattle.layers.specs.declared.Shape.{Shape}
-use Rattle.layers.specs.Step.{period, lists, every}
 use Rattle.marks.specs.Marks.{marked}
-use Rattle.marks.specs.Marking.{Marking, Room, Stride, Laid, Opens, Follows, again, switched, Tick, Walkable, Walked}
+use Rattle.marks.specs.Marking.{Marking, Room, Stride, Laid, Follows, again, switched, Tick, Walkable, Walked}
 use Rattle.marks.proofs.Bits.{bit, set_on, set_other}
 
 -- One mark.
@@ -101,9 +100,6 @@ marking_as P Q to from A = record {
   only = λ k t a b o. ⊎_elim (λ z. inl z) (λ z. inr (to k t z)) (A.only k t a b o);
 }
 
-pub marking_at : (P : ℕ → ℕ → ℕ → Type 0) (a b : ℕ) {w w' : List ℕ} → a ≡ b → Marking (P a) w w' → Marking (P b) w w'
-marking_at P a b {w} {w'} e A = subst (λ (n : ℕ). Marking (P n) w w') e A
-
 -- where all of P is at tick n or later, the marks before it are as they were
 marking_before : (P : ℕ → ℕ → Type 0) (n : ℕ) {w w' : List ℕ} → ((k t : ℕ) → P k t → n ≤ t) → Marking P w w' → (k t : ℕ) → k < 8 → t < mark_row_ticks → t < n → marked w' k t ≡ true → marked w k t ≡ true
 marking_before P n later A k t a b l o = ⊎_elim (λ z. z) (λ p. absurd (omega (arith, later k t p))) (A.only k t a b o)
@@ -116,9 +112,6 @@ pub record Sofar (q t i x : ℕ) : Type 0 where
   pub some : 1 ≤ count
   pub before : count < i
   pub reached : x ≡ t + count * q
-
-pub strides_few : (a q n : ℕ) → n ≡ a / q → n ≤ a
-strides_few a q n e = omega (arith, div-le_self a q)
 
 -- a stride that is counted fits
 pub stride_fits : (a q n i : ℕ) → n ≡ a / q → i ≤ n → i * q ≤ a
@@ -172,38 +165,6 @@ module _ (q t j : ℕ) where
           let few : s.count ≤ min (h - t) p / q = (le-div_iff_mul-le pos).1 (omega (arith, s.fits, s.reached)) in
           (a, record { count = s.count; some = s.some; before = omega arith; reached = s.reached })
 
--- The targets of a mode, those below n.
-
-module _ (s : Shape) (h k t : ℕ) where
-  pub targets_none : (w : List ℕ) → Marking (Opens s h k t 0) w w
-  targets_none w = marking_none _ w (λ j x o. omega (arith, o.target))
-
-  pub targets_more : (n : ℕ) {w w' w'' : List ℕ} → Marking (Opens s h k t n) w w'
-      → Marking (λ i x. (i ≡ n) × (lists s k n ≡ true) × (x ≤ h) × Stride (period s k) (every s k n) t x) w' w'' → Marking (Opens s h k t (n + 1)) w w''
-  targets_more n = marking_both _ _ _ split left right
-    where
-      split : (j x : ℕ) → Opens s h k t (n + 1) j x → Opens s h k t n j x ⊎ ((j ≡ n) × (lists s k n ≡ true) × (x ≤ h) × Stride (period s k) (every s k n) t x)
-      split j x o = pick (dec_lt j n)
-        where
-          pick : Dec (j < n) → Opens s h k t n j x ⊎ ((j ≡ n) × (lists s k n ≡ true) × (x ≤ h) × Stride (period s k) (every s k n) t x)
-          pick (yes l) = inl (record { target = l; listed = o.listed; within = o.within; stride = o.stride })
-          pick (no l) = let e : j ≡ n = omega (arith, o.target) in inr (e, rw e at o.listed, o.within, rw e at o.stride)
-
-      left : (j x : ℕ) → Opens s h k t n j x → Opens s h k t (n + 1) j x
-      left j x o = record { target = omega (arith, o.target); listed = o.listed; within = o.within; stride = o.stride }
-
-      right : (j x : ℕ) → (j ≡ n) × (lists s k n ≡ true) × (x ≤ h) × Stride (period s k) (every s k n) t x → Opens s h k t (n + 1) j x
-      right j x (e, l, i, r) = rw e (record { target = omega arith; listed = l; within = i; stride = r })
-
-  -- What a mode leads to, if it is marked.
-
-  pub mode_on : {w w' w'' : List ℕ} → Marking (λ j x. (j ≡ k) × (x ≡ t + period s k) × (x ≤ h)) w w' → Marking (Opens s h k t s.modes) w' w'' → Marking (Follows s h k t) w w''
-  mode_on = marking_both _ _ _ split (λ j x p. again p.0 p.1 p.2) (λ j x p. switched p)
-    where
-      split : (j x : ℕ) → Follows s h k t j x → ((j ≡ k) × (x ≡ t + period s k) × (x ≤ h)) ⊎ Opens s h k t s.modes j x
-      split j x (again a b c) = inl (a, b, c)
-      split j x (switched p) = inr p
-
 -- The walk to a tick.
 
 -- a mode leads to a mode, later and up to the horizon
@@ -233,9 +194,6 @@ module _ (s : Shape) (h t : ℕ) (ok : Walkable s) (in_row : t < mark_row_ticks)
   pub tick_same : (n : ℕ) {w w' : List ℕ} → n ≤ s.modes → Marking (Tick s h t n w) w w' → (k : ℕ) → k < 8 → marked w' k t ≡ true → marked w k t ≡ true
   tick_same n {w} i A k l = marking_before _ (t + 1) (λ j x a. omega (arith, tick_later s h t ok n w i j x a)) A k t l in_row (omega arith)
 
-  pub tick_none : (w : List ℕ) → Marking (Tick s h t 0 w) w w
-  tick_none w = marking_none _ w (λ j x a. omega (arith, a.there))
-
   tick_more : (n : ℕ) {w w' w'' : List ℕ} → n < s.modes → Marking (Tick s h t n w) w w' → Marking (λ j x. (marked w' n t ≡ true) × Follows s h n t j x) w' w''
       → Marking (Tick s h t (n + 1) w) w w''
   tick_more n {w} {w'} i A = marking_both _ _ _ split left right A
@@ -263,14 +221,7 @@ module _ (s : Shape) (h t : ℕ) (ok : Walkable s) (in_row : t < mark_row_ticks)
   pub tick_off : (n : ℕ) {w w' : List ℕ} → n < s.modes → marked w' n t ≡ false → Marking (Tick s h t n w) w w' → Marking (Tick s h t (n + 1) w) w w'
   tick_off n i off A = tick_more n i A (marking_off _ _ _ off (λ j x f. f.0))
 
--- No mode below k is marked at tick t.
-
-pub unmarked_more : (w : List ℕ) (t k : ℕ) → marked w k t ≡ false → ((j : ℕ) → j < k → marked w j t ≡ false) → (j : ℕ) → j < k + 1 → marked w j t ≡ false
-unmarked_more w t k last before j h = pick (dec_lt j k)
-  where
-    pick : Dec (j < k) → marked w j t ≡ false
-    pick (yes a) = before j a
-    pick (no a) = let same : j ≡ k = omega arith in rw same last
+-- Where no mode is marked at tick t nothing is.
 
 pub tick_unmarked : (s : Shape) (h t : ℕ) (w : List ℕ) → ((k : ℕ) → k < s.modes → marked w k t ≡ false) → Marking (Tick s h t s.modes w) w w
 tick_unmarked s h t w none = marking_none _ w (λ j x a. true≢false (sym a.on ∙ none a.mode a.there))

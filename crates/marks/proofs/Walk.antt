@@ -33,9 +33,6 @@ told_walkable m s numbers rule told =
 
 -- The numbers behind the rows, step after step.
 
-pub kept_none : (w : List ℕ) → Kept w w
-kept_none w = record { len = refl; above = λ x h. refl }
-
 pub kept_more : {P : ℕ → ℕ → Type 0} {w w' w'' : List ℕ} → Kept w w' → Marking P w' w'' → Kept w w''
 kept_more K A = record { len = A.len ∙ K.len; above = λ x h. A.above x h ∙ K.above x h }
 
@@ -111,9 +108,6 @@ module _ (s : Shape) (h n : ℕ) (ok : Walkable s) {w w' : List ℕ} (i : n < h)
           (λ z. F.sound m numbers rule told k x l b z)
           (λ z. entry_led m z.mode n k x (F.sound m numbers rule told z.mode n (omega (arith, told.modes, z.there)) (omega arith) z.on) (follows_leads m s numbers rule told h z.mode n k x z.there z.follows))
           (A.only k x (omega (arith, rule.most)) (omega (arith, F.walked.room.most)) o)
-
-pub followed_at : (s : Shape) (h a b : ℕ) (w : List ℕ) → a ≡ b → Followed s h a w → Followed s h b w
-followed_at s h a b w e = rw e (λ F. F)
 
 -- At the horizon all entries are marked: each comes from one before it.
 

@@ -8,7 +8,7 @@ ghost use Rattle.layers.specs.Layer.{Tells};
 ghost use Rattle.marks.specs.Marks.{marked};
 ghost use Rattle.marks.specs.Marking.{Marking, Room, Stride, Laid, Opens, Follows, Tick, Walkable, Walked, Followed, Kept, Entered};
 
-use layers::{Shape, smaller};
+use layers::Shape;
 use memory::{MARK_NUMBERS, MARK_ROW_NUMBERS};
 
 // Whether tick t of mode k is marked.
@@ -25,7 +25,7 @@ fn mark(bits: &mut [u32], k: usize, t: usize)
     ensures { Marking (λ j x. (j ≡ k) × (x ≡ t)) bits.old bits.new }
 {
     let x = MARK_ROW_NUMBERS * k + t / 32;
-    bits[x] = bits[x] | (1 << (t % 32));
+    bits[x] |= 1 << (t % 32);
 }
 
 // Mode k of period p begins again.
@@ -57,11 +57,9 @@ fn mark_switch(bits: &mut [u32], horizon: usize, t: usize, p: u16, q: u16, k: us
     ensures { Marking (λ i x. (i ≡ j) × (x ≤ horizon) × (Stride p q t x)) bits.old bits.new }
 {
     let step = q as usize;
-    let n = smaller(horizon - t, p as usize) / step;
-    let mut i = first_stride(bits, t, step, k, n);
-    while i <= n {
+    let n = (horizon - t).min(p as usize) / step;
+    for i in first_stride(bits, t, step, k, n)..=n {
         mark(bits, j, t + i * step);
-        i += 1;
     }
 }
 
@@ -80,11 +78,8 @@ fn mark_targets(bits: &mut [u32], horizon: usize, t: usize, shape: Shape, k: usi
     requires { (Walkable shape) × (k < shape.modes) × (Walked shape horizon t bits.old) }
     ensures { Marking (Opens shape horizon k t shape.modes) bits.old bits.new }
 {
-    let n = shape.modes;
-    let mut j = 0;
-    while j < n {
+    for j in 0..shape.modes {
         mark_target(bits, horizon, t, shape, k, j);
-        j += 1;
     }
 }
 
@@ -102,13 +97,10 @@ fn mark_tick(bits: &mut [u32], horizon: usize, t: usize, shape: Shape)
     requires { (Walkable shape) × (Walked shape horizon t bits.old) }
     ensures { Marking (Tick shape horizon t shape.modes bits.old) bits.old bits.new }
 {
-    let n = shape.modes;
-    let mut k = 0;
-    while k < n {
+    for k in 0..shape.modes {
         if is_marked(bits, k, t) {
             mark_mode(bits, horizon, t, shape, k);
         }
-        k += 1;
     }
 }
 
@@ -117,14 +109,7 @@ fn is_any_marked(bits: &[u32], n: usize, t: usize) -> bool
     requires { (n ≤ 8) × (t < mark_row_ticks) × (mark_numbers ≤ length bits.now) }
     ensures { result ≡ false → (k : ℕ) → k < n → marked bits.now k t ≡ false }
 {
-    let mut k = 0;
-    while k < n {
-        if is_marked(bits, k, t) {
-            return true;
-        }
-        k += 1;
-    }
-    false
+    (0..n).any(|k| is_marked(bits, k, t))
 }
 
 // From the first mark to all marks: those at a tick are made before it is looked at. What begins at the horizon leads beyond it.
@@ -132,13 +117,10 @@ fn follow(bits: &mut [u32], horizon: usize, shape: Shape)
     requires { (Walkable shape) × (Followed shape horizon 0 bits.old) }
     ensures { (Kept bits.old bits.new) × (Followed shape horizon horizon bits.new) }
 {
-    let n = shape.modes;
-    let mut t = 0;
-    while t < horizon {
-        if is_any_marked(bits, n, t) {
+    for t in 0..horizon {
+        if is_any_marked(bits, shape.modes, t) {
             mark_tick(bits, horizon, t, shape);
         }
-        t += 1;
     }
 }
 

@@ -4,27 +4,27 @@
 ghost use Rattle.std.specs.Prelude.{◌<◌, length};
 ghost use Rattle.model.specs.Sheet.{module_at};
 ghost use Rattle.model.specs.Emptied.{reached_part};
-ghost use Rattle.format.specs.Judgement.{sheet_in, Accepted};
+ghost use Rattle.place.specs.Held.{sheet_of};
 ghost use Rattle.layers.specs.Layer.{Told};
 ghost use Rattle.table.specs.Rows.{RowOf};
 
 use layers::{Engine, Shape};
-use table::ModuleRow;
+use place::AcceptedSheet;
+use table::{ModuleRow, Tasks};
 
 /// The module k, from its row and the sheet's tasks.
-pub fn engine_of(sheet: &[u8], k: usize, row: ModuleRow) -> Engine
-    requires accepted { Accepted sheet.now }
-    requires k_in_bounds { k < length (sheet_in sheet.now).modules }
-    requires row_of { RowOf (module_at (sheet_in sheet.now) k) row }
-    ensures { Told (module_at (sheet_in sheet.now) k) result.shape result.numbers }
+pub fn engine_of(sheet: &AcceptedSheet, k: usize, row: ModuleRow) -> Engine
+    requires k_in_bounds { k < length (sheet_of sheet.now).modules }
+    requires row_of { RowOf (module_at (sheet_of sheet.now) k) row }
+    ensures { Told (module_at (sheet_of sheet.now) k) result.shape result.numbers }
 {
-    let modes = place::modes_at(sheet, place::module_place(sheet, k));
-    let tasks = table::module_tasks(sheet, k);
-    let starts = tasks.starts;
-    let numbers = tasks.numbers;
-    let periods = row.periods;
-    let every = row.every;
-    let listed = row.listed;
+    let modes = sheet.modes_at(sheet.module_place(k));
+    let ModuleRow {
+        periods,
+        every,
+        listed,
+    } = row;
+    let Tasks { starts, numbers } = table::module_tasks(sheet, k);
     let shape = Shape {
         modes,
         periods,
@@ -36,15 +36,12 @@ pub fn engine_of(sheet: &[u8], k: usize, row: ModuleRow) -> Engine
 }
 
 /// The module k with each mode that is not reached made idle.
-pub fn reached_engine_of(sheet: &[u8], k: usize, row: ModuleRow) -> Engine
-    requires accepted { Accepted sheet.now }
-    requires k_in_bounds { k < length (sheet_in sheet.now).modules }
-    requires row_of { RowOf (module_at (sheet_in sheet.now) k) row }
-    ensures { Told (reached_part (module_at (sheet_in sheet.now) k)) result.shape result.numbers }
+pub fn reached_engine_of(sheet: &AcceptedSheet, k: usize, row: ModuleRow) -> Engine
+    requires k_in_bounds { k < length (sheet_of sheet.now).modules }
+    requires row_of { RowOf (module_at (sheet_of sheet.now) k) row }
+    ensures { Told (reached_part (module_at (sheet_of sheet.now) k)) result.shape result.numbers }
 {
     let engine = engine_of(sheet, k, row);
-    let shape = engine.shape;
-    let numbers = engine.numbers;
-    let kept = reach::reached_modes(shape);
-    emptying::empty_modes(shape, &numbers, kept)
+    let kept = reach::reached_modes(engine.shape);
+    emptying::empty_modes(engine.shape, &engine.numbers, kept)
 }

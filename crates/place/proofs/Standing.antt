@@ -9,7 +9,7 @@ use lib.Seq.{drop-length, length-take-le, drop-cons, drop-drop, drop_at, get_or-
 use Rattle.model.specs.Lists.{sum_of}
 use Rattle.model.specs.Sheet.{Task, Kind, SW, SX, Switch, Mode, Module, Sheet, module_at}
 use Rattle.model.specs.Run.{mode_at, idle}
-use Rattle.format.specs.Record.{Mark, HZ, ML, MD, TK, switch, EN, Record, hz, ml, md, tk, sw, en, mark_of, size, code, record_at}
+use Rattle.format.specs.Record.{Mark, HZ, ML, MD, TK, switch, EN, Record, hz, ml, md, tk, sw, en, mark_of, size, code, field_at, record_at}
 use Rattle.format.specs.Encoding.{joined, mode_records, module_records, records_before_end, records, record_bytes, encode}
 use Rattle.format.specs.Judgement.{sheet_in, Accepted}
 use Rattle.format.specs.Refusal.{AreBytes}
@@ -173,6 +173,16 @@ abbrev mode_of : List ℕ → ℕ → ℕ → Mode
 mode_of bs k j = mode_at (module_at (sheet_in bs) k) j
 
 module _ (bs : List ℕ) (accepted : Accepted bs) (bytes : AreBytes bs) where
+  -- HZ stands at the front
+  pub horizon_there : field_at bs 2 ≡ (sheet_in bs).horizon
+  horizon_there =
+      let s : Sheet = sheet_in bs in
+      let there : hz (field_at bs 2) ≡ hz s.horizon = record_there bs 0 (hz s.horizon) (joined module_lines s.modules ++ end_line s) (sym (accepted_encoded bs s accepted bytes) ∙ sheet_lines_lem s) in
+      cc
+
+  pub horizon_within : 4 ≤ length bs
+  horizon_within = omega (arith, ap length (sym (accepted_encoded bs (sheet_in bs) accepted bytes) ∙ sheet_lines_lem (sheet_in bs)), length-append (record_bytes (hz (sheet_in bs).horizon)) (joined module_lines (sheet_in bs).modules ++ end_line (sheet_in bs)), length_record_bytes (hz (sheet_in bs).horizon))
+
   from_start : drop 4 bs ≡ joined module_lines (sheet_in bs).modules ++ end_line (sheet_in bs)
   from_start =
       let s : Sheet = sheet_in bs in

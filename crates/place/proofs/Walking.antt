@@ -29,13 +29,12 @@ module _ (bs : List ℕ) (accepted : Accepted bs) (bytes : AreBytes bs) where
 pub mode_after : (s : Sheet) (p k j r : ℕ) → ModeThere s k j p → r ≡ p + mode_bytes (mode_at (module_at s k) j) → r ≡ mode_place s k (j + 1)
 mode_after s p k j r h e = rw (add-one j) (omega (arith, next_mode s k j h.mode))
 
--- i modes of the module at p, of which j are to be passed, are passed: q is behind them
+-- of the j modes of the module at p that are to be passed the first i are passed: q is behind them
 pub record Modes (s : Sheet) (p j q i : ℕ) : Type 0 where
-  pub few : i ≤ j
   pub place : (k : ℕ) → ModesThere s k p j → q ≡ mode_place s k i
 
 pub modes_none : (s : Sheet) (p j : ℕ) → Modes s p j (p + 4) 0
-modes_none s p j = record { few = omega arith; place = λ k h. omega (arith, first_mode s k) }
+modes_none s p j = record { place = λ k h. omega (arith, first_mode s k) }
 
 module _ {s : Sheet} {p j q i : ℕ} (passed : Modes s p j q i) (l : i < j) where
   -- a mode stands behind them
@@ -46,10 +45,7 @@ module _ {s : Sheet} {p j q i : ℕ} (passed : Modes s p j q i) (l : i < j) wher
   modes_some some = record { k = some.k; j = i; there = mode_next some.k some.there }
 
   pub modes_more : (r : ℕ) → ((k j : ℕ) → ModeThere s k j q → r ≡ mode_place s k (j + 1)) → Modes s p j r (i + 1)
-  modes_more r after = record { few = omega arith; place = λ k h. after k i (mode_next k h) }
-
-pub modes_all : {s : Sheet} {p j q i : ℕ} → Modes s p j q i → j ≤ i → (k : ℕ) → ModesThere s k p j → q ≡ mode_place s k j
-modes_all {j = j} {i = i} passed l k h = let e : i ≡ j = omega arith in rw (sym e) (passed.place k h)
+  modes_more r after = record { place = λ k h. after k i (mode_next k h) }
 
 -- a module that stands at p has its own number of modes
 pub all_modes : (s : Sheet) (k p n : ℕ) → ModuleThere s k p → n ≡ length (module_at s k).modes → ModesThere s k p n
@@ -59,24 +55,20 @@ all_modes s k p n h e = record { number = h.number; place = h.place; most = omeg
 pub module_after : (s : Sheet) (p n r k : ℕ) → ModuleThere s k p → n ≡ length (module_at s k).modes → r ≡ mode_place s k n → r ≡ module_place s (k + 1)
 module_after s p n r k h e f = f ∙ rw (e, add-one k) (sym (next_module s k h.number))
 
--- i modules, of k that are to be passed, are passed: p is behind them
-pub record Modules (s : Sheet) (k p i : ℕ) : Type 0 where
-  pub few : i ≤ k
+-- i modules are passed: p is behind them
+pub record Modules (s : Sheet) (p i : ℕ) : Type 0 where
   pub place : p ≡ module_place s i
 
-pub modules_none : (s : Sheet) (k : ℕ) → Modules s k 4 0
-modules_none s k = record { few = omega arith; place = sym (first_module s) }
+pub modules_none : (s : Sheet) → Modules s 4 0
+modules_none s = record { place = sym (first_module s) }
 
-module _ {s : Sheet} {k p i : ℕ} (passed : Modules s k p i) (all : k ≤ length s.modules) (l : i < k) where
+module _ {s : Sheet} {p i : ℕ} (passed : Modules s p i) (l : i < length s.modules) where
   -- a module stands behind them
   module_next : ModuleThere s i p
-  module_next = record { number = omega arith; place = passed.place }
+  module_next = record { number = l; place = passed.place }
 
   pub modules_some : SomeModule s p
   modules_some = record { k = i; there = module_next }
 
-  pub modules_more : (r : ℕ) → ((k : ℕ) → ModuleThere s k p → r ≡ module_place s (k + 1)) → Modules s k r (i + 1)
-  modules_more r after = record { few = omega arith; place = after i module_next }
-
-pub modules_all : {s : Sheet} {k p i : ℕ} → Modules s k p i → k ≤ i → p ≡ module_place s k
-modules_all {k = k} {i = i} passed l = let e : i ≡ k = omega arith in rw (sym e) passed.place
+  pub modules_more : (r : ℕ) → ((k : ℕ) → ModuleThere s k p → r ≡ module_place s (k + 1)) → Modules s r (i + 1)
+  modules_more r after = record { place = after i module_next }

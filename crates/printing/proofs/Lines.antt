@@ -17,8 +17,9 @@ use Rattle.query.specs.Answer.{refused, given, Terms, GivenBy, AnsweredBy}
 use Rattle.lines.specs.Lines.{refused_line, lines_of, lines}
 use Rattle.writing.specs.Writing.{Put}
 use Rattle.writing.proofs.Lengths.{refused_length}
-use Rattle.report.specs.declared.Report.{Report}
-use Rattle.report.specs.declared.Report.TheVariants.{Refused, Written}
+use Rattle.std.specs.Prelude.{Result, Ok, Err}
+use Rattle.judge.specs.declared.Refusal.{Refusal}
+use Rattle.judge.specs.Told.{number_of}
 use Rattle.report.specs.Report.{out_bytes, report_terms, answer_of, Lines, Reported}
 use Rattle.report.proofs.Unique.{apart}
 use Rattle.printing.specs.Printed.{lines_answer, OutLeft, Printed, Counted}
@@ -32,19 +33,6 @@ refused_room {n} {p} h i room =
     let many : p < 10 ^ 20 = omega arith in
     omega (arith, refused_length 3 20 (omega arith) (omega arith) n p few many)
 
-module _ (n p : ℕ) (o : List ℕ) where
-  pub no_line : n ≡ 10 → Refusing n p o o (Refused n p)
-  no_line e = record { answer = rw (eq-eqb n 10 e); out = refl }
-
-  module _ (other : n ≡ 10 → ⊥) where
-    pub no_room : length o < out_bytes → Refusing n p o o (Refused n p)
-    no_room l = record { answer = rw (ne_eqb n 10 other, lt-ltb (length o) out_bytes l); out = refl }
-
-    pub line_put : out_bytes ≤ length o → {o' : List ℕ} {k : ℕ} → Put 0 k (refused_line n p) o o' → Refusing n p o o' (Written k)
-    line_put l {o'} {k} put =
-        let all : k ≡ length (refused_line n p) = omega (arith, put.ends) in
-        record { answer = rw (ne_eqb n 10 other, le-ltb (length o) out_bytes l) (ap given all); out = put }
-
 -- What is counted.
 
 -- bytes that are written from the beginning on are counted by the place behind them
@@ -53,12 +41,12 @@ put_counted {n} {o' = o'} p =
     let whole : n ≡ length (take n o') = omega (arith, p.ends, ap length p.before) in
     (omega (arith, whole, length-take n o'), whole)
 
-pub printed_counted : {bytes w w' t t' o o' : List ℕ} {r : Report} → Printed bytes w w' t t' o o' r → Counted o' r
+pub printed_counted : {bytes w w' t t' o o' : List ℕ} {r : Result ℕ Refusal} → Printed bytes w w' t t' o o' r → Counted o' r
 printed_counted {bytes} {o = o} {o' = o'} {r = r} printed = pick r printed.out
   where
-    pick : (r : Report) → OutLeft (lines bytes) o o' (answer_of r) → Counted o' r
-    pick (Refused n p) left = tt
-    pick (Written n) put = put_counted put
+    pick : (r : Result ℕ Refusal) → OutLeft (lines bytes) o o' (answer_of r) → Counted o' r
+    pick (Err n) left = tt
+    pick (Ok n) put = put_counted put
 
 -- What is printed.
 
@@ -66,28 +54,34 @@ module _ (bytes w w' t t' o : List ℕ) where
   abbrev terms : Terms
   terms = report_terms (length w) (length t) (length o)
 
-  abbrev Shown : Judgement → List ℕ → Report → Type 0
+  abbrev Shown : Judgement → List ℕ → Result ℕ Refusal → Type 0
   Shown j o' r = (answer_of r ≡ lines_answer (length w) (length t) (length o) j) × OutLeft (lines_of j) o o' (answer_of r)
 
   -- a report that is written
-  module _ {o' : List ℕ} {n : ℕ} (r : Reported bytes w w' t t' o o' (Written n)) where
-    written_shown : (j : Judgement) → AnsweredBy terms (λ s k. Lines s o' k) j (given n) → Shown j o' (Written n)
+  module _ {o' : List ℕ} {n : ℕ} (r : Reported bytes w w' t t' o o' (Ok n)) where
+    written_shown : (j : Judgement) → AnsweredBy terms (λ s k. Lines s o' k) j (given n) → Shown j o' (Ok n)
     written_shown (Judgement.refused m q) g = apart g
     written_shown (Judgement.accepted s) g = tests (terms.enough s) refl g
       where
-        tests : (e : Bool) → terms.enough s ≡ e → GivenBy true e (λ k. Lines s o' k) (given n) → Shown (Judgement.accepted s) o' (Written n)
+        tests : (e : Bool) → terms.enough s ≡ e → GivenBy true e (λ k. Lines s o' k) (given n) → Shown (Judgement.accepted s) o' (Ok n)
         tests true h g =
             let same : n ≡ g.0 = cc g.1 in
             let l : Lines s o' n = rw same g.2 in
             (rw h (ap given l.count), record { ends = omega (arith, l.count); len = r.out.len; before = l.lines; after = r.out.above })
         tests false h g = apart g
 
-    pub written_printed : Printed bytes w w' t t' o o' (Written n)
+    pub written_printed : Printed bytes w w' t t' o o' (Ok n)
     unfolding lines
     written_printed = let shown = written_shown (judgement bytes) r.answer in record { answer = shown.0; out = shown.1; report = _; between = _; reported = r }
 
   -- a report that is refused, with what is done then
-  module _ {u o' : List ℕ} {n p : ℕ} (q : Report) (r : Reported bytes w w' t t' o u (Refused n p)) (done : Refusing n p u o' q) where
+  module _ {u o' : List ℕ} {f : Refusal} (q : Result ℕ Refusal) (r : Reported bytes w w' t t' o u (Err f)) (done : Refusing (number_of f.fault) f.place u o' q) where
+    abbrev n : ℕ
+    n = number_of f.fault
+
+    abbrev p : ℕ
+    p = f.place
+
     stayed : u ≡ o
     stayed = r.out.above
 
@@ -123,7 +117,7 @@ module _ (bytes w w' t t' o : List ℕ) where
     refused_printed = let shown = refused_shown (judgement bytes) refl r.answer in record { answer = shown.0; out = shown.1; report = _; between = _; reported = r }
 
 -- Where the memory is enough for every sheet, something is printed for any bytes.
-pub enough_printed : {bytes w w' t t' o o' : List ℕ} {r : Report} → work_numbers ≤ length w → max_modules * max_horizon ≤ length t → out_bytes ≤ length o
+pub enough_printed : {bytes w w' t t' o o' : List ℕ} {r : Result ℕ Refusal} → work_numbers ≤ length w → max_modules * max_horizon ≤ length t → out_bytes ≤ length o
     → Printed bytes w w' t t' o o' r → answer_of r ≡ given (length (lines bytes))
 unfolding lines
 enough_printed {bytes} {w} {t = t} {o = o} work tape out printed = printed.answer ∙ judged (judgement bytes) refl

@@ -9,23 +9,24 @@ use Rattle.query.specs.Memory.{Stays, work_used}
 use Rattle.query.proofs.Meeting.{stays_untouched}
 use Rattle.lines.specs.Lines.{lines}
 use Rattle.writing.proofs.Writing.{put_unique}
-use Rattle.report.specs.declared.Report.{Report}
+use Rattle.std.specs.Prelude.{Result}
+use Rattle.judge.specs.declared.Refusal.{Refusal}
 use Rattle.report.specs.Report.{answer_of}
 use Rattle.report.proofs.Unique.{answer_injective, Agree as Reports, report_unique}
 use Rattle.printing.specs.Printed.{OutLeft, Printed}
 
-pub record Agree (r q : Report) (u v p p' o o' : List ℕ) : Type 0 where
+pub record Agree (r q : Result ℕ Refusal) (u v p p' o o' : List ℕ) : Type 0 where
   pub answer : r ≡ q
   pub memory : Stays work_numbers u v
   pub tape : p ≡ p'
   pub out : o ≡ o'
 
-pub printed_unique : {bytes w u v t p p' o x y : List ℕ} {r q : Report} → Printed bytes w u t p o x r → Printed bytes w v t p' o y q → Agree r q u v p p' x y
+pub printed_unique : {bytes w u v t p p' o x y : List ℕ} {r q : Result ℕ Refusal} → Printed bytes w u t p o x r → Printed bytes w v t p' o y q → Agree r q u v p p' x y
 printed_unique {bytes} {w} {u} {v} {t} {p} {p'} {o} {x} {y} {r} {q} g h = record {
   answer = same;
   memory = used (answer_of g.report) reports.memory;
   tape = reports.tape;
-  out = left (answer_of r) g.out (subst (λ (a : Report). OutLeft (lines bytes) o y (answer_of a)) (sym same) h.out);
+  out = left (answer_of r) g.out (subst (λ (a : Result ℕ Refusal). OutLeft (lines bytes) o y (answer_of a)) (sym same) h.out);
 }
   where
     same : r ≡ q

@@ -12,8 +12,8 @@ use Rattle.query.specs.Answer.{refused, given, Terms, GivenBy, AnsweredBy, Answe
 use Rattle.query.specs.Query.{Witnessed, WitnessedIs, exact_terms}
 use Rattle.query.specs.Memory.{tapes_in}
 use Rattle.exact.specs.Exact.{modules_in, ExactTested}
-use Rattle.exact.specs.declared.Exact.TheVariants.{Clear, Over}
-use Rattle.exact.specs.declared.Interval.{Interval}
+use Rattle.std.specs.Prelude.{Some, None, Ok}
+use Rattle.cells.specs.declared.Interval.{Interval}
 use Rattle.edf.proofs.Meaning.{clear_on_time, over_late, over_shown}
 use Rattle.promise.specs.Promise.{ClearPromise, OverPromise}
 
@@ -37,12 +37,12 @@ module _ (bytes w w' t t' : List ℕ) where
   answered : (v : Witnessed) → Answered (exact_terms (length w) (length t)) WitnessedIs bytes (given v) → Accepted bytes × WitnessedIs (sheet_in bytes) v
   answered v = given_is (exact_terms (length w) (length t)) WitnessedIs bytes v
 
-  pub clear_tied : ExactTested bytes w w' t t' Clear → Accepted bytes × ClearPromise (sheet_in bytes)
+  pub clear_tied : ExactTested bytes w w' t t' (Ok None) → Accepted bytes × ClearPromise (sheet_in bytes)
   clear_tied tested =
       let h = answered _ tested.answer in
       (h.0, clear_on_time (sheet_in bytes) (accepted_well_formed bytes (sheet_in bytes) h.0) h.1.0)
 
-  pub over_tied : (x : Interval) → ExactTested bytes w w' t t' (Over x) → Accepted bytes × OverPromise (sheet_in bytes) x.end (tapes_in (modules_in bytes) x.end t')
+  pub over_tied : (x : Interval) → ExactTested bytes w w' t t' (Ok (Some x)) → Accepted bytes × OverPromise (sheet_in bytes) x.end (tapes_in (modules_in bytes) x.end t')
   over_tied x tested =
       let h = answered _ tested.answer in
       let s = sheet_in bytes in

@@ -1,17 +1,22 @@
 -- What the tests before an answer say of a call: it is refused, or its terms are met. Assumes nothing.
-use Rattle.std.specs.Prelude.{◌≡◌, List, ℕ, length}
-use Rattle.model.specs.Verdict.{Quick}
+use Rattle.std.specs.Prelude.{◌≡◌, List, ℕ, length, Result, Ok, Err}
+use Rattle.model.specs.Sheet.{counts}
 use Rattle.format.specs.Judgement.{sheet_in}
+use Rattle.judge.specs.declared.Judged.{Judged}
+use Rattle.judge.specs.declared.Refusal.{Refusal}
+use Rattle.judge.specs.Told.{number_of}
 use Rattle.query.specs.Answer.{Terms, Meets, RefusedWith}
-use Rattle.quick.specs.declared.Asked.{Asked}
-use Rattle.quick.specs.declared.Asked.TheVariants as asked
 
--- the terms are met by a sheet of so many modules and this horizon
-pub record Sound (t : Terms) (bytes : List ℕ) (modules horizon : ℕ) : Type 0 where
+-- the terms are met by a sheet of these counts and this horizon
+pub record Sound (t : Terms) (bytes : List ℕ) (a : Judged) : Type 0 where
   pub met : Meets t bytes
-  pub modules_are : modules ≡ length (sheet_in bytes).modules
-  pub horizon_is : horizon ≡ (sheet_in bytes).horizon
+  pub modules_are : a.modules ≡ length (sheet_in bytes).modules
+  pub modes_are : a.modes ≡ (counts (sheet_in bytes)).modes
+  pub tasks_are : a.tasks ≡ (counts (sheet_in bytes)).tasks
+  pub switches_are : a.switches ≡ (counts (sheet_in bytes)).switches
+  pub horizon_is : a.horizon ≡ (sheet_in bytes).horizon
 
-abbrev pub Asks : Terms → List ℕ → Asked → Type 0
-Asks t bytes (asked.Refused number place) = RefusedWith Quick t bytes number place
-Asks t bytes (asked.Sound modules horizon) = Sound t bytes modules horizon
+-- whichever figure of the kind A is asked for
+abbrev pub Asks : Type 0 → Terms → List ℕ → Result Judged Refusal → Type 0
+Asks A t bytes (Err r) = RefusedWith A t bytes (number_of r.fault) r.place
+Asks A t bytes (Ok a) = Sound t bytes a

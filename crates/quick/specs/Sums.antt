@@ -1,12 +1,12 @@
 -- What the row of sums holds of a sheet. Past the working memory nothing changes. Assumes nothing.
-use Rattle.std.specs.Prelude.{◌≡◌, List, ℕ, ◌+◌, ◌≤◌, length}
+use Rattle.std.specs.Prelude.{◌≡◌, List, ℕ, ◌+◌, ◌≤◌, length, Option}
 use Rattle.model.specs.Sheet.{Sheet, module_at}
 use Rattle.model.specs.Limits.{work_numbers}
 use Rattle.model.specs.Demand.{module_demand}
 use Rattle.model.specs.Verdict.{quick_from, quick_sum}
 use Rattle.query.specs.Memory.{Stays}
 use Rattle.layers.specs.Step.{look}
-use Rattle.sums.specs.declared.Over.{Over}
+use Rattle.sums.specs.declared.Excess.{Excess}
 use Rattle.sums.specs.Sums.{quick_of}
 
 -- to the sum of each length up to n the demand of the module k is added
@@ -22,6 +22,6 @@ pub record SumsOf (s : Sheet) (n : ℕ) (w w' : List ℕ) : Type 0 where
   pub above : (x : ℕ) → work_numbers ≤ x → look w' x ≡ look w x
 
 -- the first length up to n whose sum exceeds it is found
-pub record Found (s : Sheet) (n : ℕ) (r : Over) (w w' : List ℕ) : Type 0 where
+pub record Found (s : Sheet) (n : ℕ) (r : Option Excess) (w w' : List ℕ) : Type 0 where
   pub stays : Stays work_numbers w w'
   pub first : quick_of r ≡ quick_from (quick_sum s) n 1

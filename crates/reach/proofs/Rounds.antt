@@ -2,14 +2,13 @@
 use mathlib.Core.Path.{◌≡◌, refl, sym, ◌∙◌, ap₂}
 use mathlib.Core.Bool.{Bool, true, false, ◌&&◌, ◌||◌}
 use mathlib.Core.List.{List}
-use Prim.Native.Nat.{ℕ, zero, suc, ◌+◌, ◌*◌, ◌≤◌, ◌<◌}
+use Prim.Native.Nat.{ℕ, ◌+◌, ◌*◌, ◌≤◌, ◌<◌}
 use native.Mathlib.Decide.{dec_lt}
 use native.Mathlib.Numerals.{add-one}
 use native.Mathlib.Omega.{arith}
 use borrow.Author.Tests.{ne_eqb}
 use lib.Dec.{eqb}
 use lib.ListN.{length, get_or, set, replicate}
-use Rattle.model.specs.Lists.{any_below}
 use Rattle.model.specs.Limits.{max_modes}
 use Rattle.model.specs.Sheet.{Module, named}
 use Rattle.model.specs.Run.{mode_at}
@@ -19,7 +18,7 @@ use Rattle.layers.specs.declared.Shape.{Shape}
 use Rattle.layers.specs.Step.{lists}
 use Rattle.layers.specs.Layer.{Told}
 use Rattle.reach.specs.Names.{listed_by, in_round, Names, NamesReached}
-use Rattle.reach.proofs.Rows.{names_none, names_more}
+use Rattle.reach.proofs.Rows.{any_same, names_none, names_more}
 
 -- What the shape lists is what the module's modes list.
 
@@ -44,10 +43,6 @@ told_lists {m} {s} told = record { all = told.modes; each = λ k t l h. same_tes
     back k t l e = let (w, i, target) = named_switch t (mode_at m k).switches e in rw target at ((told.each k l).listed w i).0
 
 -- The rounds.
-
-any_same : (p q : ℕ → Bool) (n : ℕ) → ((k : ℕ) → k < n → p k ≡ q k) → any_below p n ≡ any_below q n
-any_same p q zero e = refl
-any_same p q (suc n) e = ap₂ ◌||◌ (e n (omega arith)) (any_same p q n (λ k l. e k (omega arith)))
 
 -- the row after n rounds, of whichever module's modes list so
 pub record After (modes : ℕ) (listed : List Bool) (n : ℕ) (row : List Bool) : Type 0 where

@@ -6,23 +6,14 @@ ghost use Rattle.layers.specs.Layer.{Tells};
 ghost use Rattle.reach.specs.Names.{in_round, Names, NamesReached};
 
 use layers::Shape;
+use std::array;
 
 // Whether the row of one round more names the mode t: the row does, or a mode that it names lists t.
 fn is_reached(listed: &[bool; 64], modes: usize, row: &[bool; 8], t: usize) -> bool
     requires { (modes ≤ 8) × (t < 8) }
     ensures { result ≡ in_round listed.now modes row.now t }
 {
-    if row[t] {
-        return true;
-    }
-    let mut k = 0;
-    while k < modes {
-        if row[k] && listed[8 * k + t] {
-            return true;
-        }
-        k += 1;
-    }
-    false
+    row[t] || (0..modes).any(|k| row[k] && listed[8 * k + t])
 }
 
 // The row of one round more.
@@ -30,13 +21,7 @@ fn round(listed: &[bool; 64], modes: usize, row: &[bool; 8]) -> [bool; 8]
     requires { modes ≤ 8 }
     ensures { Names modes (in_round listed.now modes row.now) result }
 {
-    let mut more = [false; 8];
-    let mut t = 0;
-    while t < modes {
-        more[t] = is_reached(listed, modes, row, t);
-        t += 1;
-    }
-    more
+    array::from_fn(|t| t < modes && is_reached(listed, modes, row, t))
 }
 
 /// Which modes are reached, by as many rounds as there are modes.
@@ -44,14 +29,10 @@ pub fn reached_modes(shape: Shape) -> [bool; 8]
     requires { (numbers : List ℕ) × Tells shape numbers }
     ensures { NamesReached shape result }
 {
-    let modes = shape.modes;
-    let listed = shape.listed;
     let mut row = [false; 8];
     row[0] = true;
-    let mut n = 0;
-    while n < modes {
-        row = round(&listed, modes, &row);
-        n += 1;
+    for _ in 0..shape.modes {
+        row = round(&shape.listed, shape.modes, &row);
     }
     row
 }

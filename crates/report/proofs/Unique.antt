@@ -1,6 +1,6 @@
 -- Two calls with the same sheet and the same lent memory that meet the contract agree: in the answer, in the whole output memory, in the whole tape
 -- memory, and in all of the working memory that the answer does not use. Assumes nothing.
-use mathlib.Core.Path.{◌≡◌, refl, sym, ◌∙◌, subst}
+use mathlib.Core.Path.{◌≡◌, refl, sym, ap, ◌∙◌, subst}
 use mathlib.Core.Bool.{Bool, true, false}
 use mathlib.Core.List.{List}
 use Prim.Native.Nat.{ℕ}
@@ -14,15 +14,20 @@ use Rattle.query.specs.Memory.{Stays, work_used}
 use Rattle.query.proofs.Answers.{answer_unique}
 use Rattle.query.proofs.Meeting.{stays_agree}
 use Rattle.exact.proofs.Unique.{exact_unique}
-use Rattle.report.specs.declared.Report.{Report}
-use Rattle.report.specs.declared.Report.TheVariants.{Refused, Written}
+use Rattle.std.specs.Prelude.{Result, Ok, Err}
+use Rattle.judge.specs.declared.Refusal.{Refusal}
+use Rattle.judge.specs.Told.{number_of}
+use Rattle.judge.proofs.JudgedLaws.{refusal_same}
 use Rattle.report.specs.Report.{report_terms, answer_of, Lines, out_used, TapeLeft, Reported}
 
-pub answer_injective : (r q : Report) → answer_of r ≡ answer_of q → r ≡ q
-answer_injective (Refused n p) (Refused m o) e = cc
-answer_injective (Refused n p) (Written k) e = cc
-answer_injective (Written k) (Refused m o) e = cc
-answer_injective (Written k) (Written l) e = cc
+pub answer_injective : (r q : Result ℕ Refusal) → answer_of r ≡ answer_of q → r ≡ q
+answer_injective (Err a) (Err b) e =
+    let number : number_of a.fault ≡ number_of b.fault = cc in
+    let place : a.place ≡ b.place = cc in
+    ap Err (refusal_same a b number place)
+answer_injective (Err a) (Ok k) e = cc
+answer_injective (Ok k) (Err b) e = cc
+answer_injective (Ok k) (Ok l) e = cc
 
 pub apart : {A C : Type 0} {v : A} {number place : ℕ} → given v ≡ refused number place → C
 apart e = let z : ◌≡◌ {A = ℕ} 0 1 = cc in absurd (omega arith)
@@ -56,18 +61,18 @@ module _ {A : Type 0} (t : Terms) (R : Sheet → A → Type 0) (bytes : List ℕ
       judged (Judgement.refused n p) e g = apart g
       judged (Judgement.accepted s) e g = rw e (tests (t.in_range s) (t.enough s) s g)
 
-pub record Agree (r q : Report) (u v p p' o o' : List ℕ) : Type 0 where
+pub record Agree (r q : Result ℕ Refusal) (u v p p' o o' : List ℕ) : Type 0 where
   pub answer : r ≡ q
   pub memory : Stays (work_used (answer_of r)) u v
   pub tape : p ≡ p'
   pub out : o ≡ o'
 
-pub report_unique : {bytes w u v t p p' o x y : List ℕ} {r q : Report} → Reported bytes w u t p o x r → Reported bytes w v t p' o y q → Agree r q u v p p' x y
+pub report_unique : {bytes w u v t p p' o x y : List ℕ} {r q : Result ℕ Refusal} → Reported bytes w u t p o x r → Reported bytes w v t p' o y q → Agree r q u v p p' x y
 report_unique {bytes} {w} {u} {v} {t} {p} {p'} {o} {x} {y} {r} {q} g h = record {
   answer = same;
-  memory = stays_agree g.memory (subst (λ (a : Report). Stays (work_used (answer_of a)) w v) (sym same) h.memory);
+  memory = stays_agree g.memory (subst (λ (a : Result ℕ Refusal). Stays (work_used (answer_of a)) w v) (sym same) h.memory);
   tape = tape_same r g.tape (subst (TapeLeft bytes w v t p') (sym same) h.tape);
-  out = out_same r g.answer (subst (λ (a : Report). Answered terms (Out y) bytes (answer_of a)) (sym same) h.answer) g.out (subst (λ (a : Report). Stays (out_used (answer_of a)) o y) (sym same) h.out);
+  out = out_same r g.answer (subst (λ (a : Result ℕ Refusal). Answered terms (Out y) bytes (answer_of a)) (sym same) h.answer) g.out (subst (λ (a : Result ℕ Refusal). Stays (out_used (answer_of a)) o y) (sym same) h.out);
 }
   where
     terms : Terms
@@ -82,13 +87,13 @@ report_unique {bytes} {w} {u} {v} {t} {p} {p'} {o} {x} {y} {r} {q} g h = record 
     same : r ≡ q
     same = answer_injective r q (answer_unique terms (λ s n. n ≡ length (sheet_lines s)) (λ s ok n m e f. e ∙ sym f) bytes (answer_of r) (answer_of q) (counted x (answer_of r) g.answer) (counted y (answer_of q) h.answer))
 
-    tape_same : (a : Report) → TapeLeft bytes w u t p a → TapeLeft bytes w v t p' a → p ≡ p'
-    tape_same (Refused n m) a b = a.above ∙ sym b.above
-    tape_same (Written k) a b = (exact_unique a.1 b.1).tape
+    tape_same : (a : Result ℕ Refusal) → TapeLeft bytes w u t p a → TapeLeft bytes w v t p' a → p ≡ p'
+    tape_same (Err n) a b = a.above ∙ sym b.above
+    tape_same (Ok k) a b = (exact_unique a.1 b.1).tape
 
-    out_same : (a : Report) → Answered terms (Out x) bytes (answer_of a) → Answered terms (Out y) bytes (answer_of a) → Stays (out_used (answer_of a)) o x → Stays (out_used (answer_of a)) o y → x ≡ y
-    out_same (Refused n m) a b c d = c.above ∙ sym d.above
-    out_same (Written k) a b c d =
+    out_same : (a : Result ℕ Refusal) → Answered terms (Out x) bytes (answer_of a) → Answered terms (Out y) bytes (answer_of a) → Stays (out_used (answer_of a)) o x → Stays (out_used (answer_of a)) o y → x ≡ y
+    out_same (Err n) a b c d = c.above ∙ sym d.above
+    out_same (Ok k) a b c d =
         let lines : take k x ≡ take k y = (given_holds terms (Out x) bytes k a).lines ∙ sym (given_holds terms (Out y) bytes k b).lines in
         let rest : drop k x ≡ drop k y = c.above ∙ sym d.above in
         sym (take-append-drop k x) ∙ rw (lines, rest) (take-append-drop k y)

@@ -2,7 +2,6 @@
 #![tactic(auto)]
 
 use judge::Sheet;
-use report::Report;
 use std::io;
 use std::io::Write;
 
@@ -11,7 +10,7 @@ fn print(rt: &HostRuntime, sheet: &[u8]) -> io::Result<()> {
     let mut tape = [0u8; printing::TAPE_BYTES];
     let mut out = [0u8; report::OUT_BYTES];
     let lines = printing::put_lines(sheet, &mut work, &mut tape, &mut out);
-    if let Report::Written { count } = lines {
+    if let Ok(count) = lines {
         io::writer(rt).write_all(&out[..count])?;
     }
     Ok(())

@@ -13,8 +13,8 @@ use Rattle.model.specs.Run.{first}
 use Rattle.model.specs.Demand.{value}
 use Rattle.model.specs.Verdict.{Exact, or_else, exact_at, exact_from, exact_sum, exact}
 use Rattle.entries.proofs.Pieces.{exact_pieces}
-use Rattle.cells.specs.declared.Found.{Found}
-use Rattle.cells.specs.declared.Found.TheVariants.{Clear, At}
+use Rattle.std.specs.Prelude.{Option, Some, None}
+use Rattle.cells.specs.declared.Interval.{Interval}
 use Rattle.cells.specs.Cells.{Longest, Holding}
 use Rattle.tiles.specs.Tiles.{Within}
 use Rattle.tiles.proofs.Parts.{within_none, within_wider, within_then}
@@ -74,19 +74,19 @@ pub behind_none : (f : ℕ → ℕ → ℕ) (from lo n : ℕ) (w : List ℕ) →
 behind_none f from lo n w = record { kept = within_none from work_numbers w; some = omega arith; rest = let all : lo + n - lo ≡ n = omega arith in rw all }
 
 module _ {f : ℕ → ℕ → ℕ} {from lo n b : ℕ} {w w' : List ℕ} (p : Behind f from lo n b w w') where
-  pub behind_all : lo + n ≤ b → Searched from (exact_from f n lo) Clear w w'
+  pub behind_all : lo + n ≤ b → Searched from (exact_from f n lo) None w w'
   behind_all h = record { kept = p.kept; found = sym (p.rest ∙ later_none f (lo + n) b h) }
 
   -- the k ends of a piece
   module _ (k : ℕ) (h : b + k ≤ lo + n) {w'' : List ℕ} where
-    pub behind_over : {start end sum : ℕ} → Searched from (exact_from f k b) (At start end sum) w' w'' → Searched from (exact_from f n lo) (At start end sum) w w''
+    pub behind_over : {x : Interval} → Searched from (exact_from f k b) (Some x) w' w'' → Searched from (exact_from f n lo) (Some x) w w''
     behind_over piece = record { kept = within_then p.kept piece.kept; found = sym (p.rest ∙ rw (later_cut f (lo + n) b k h, ← piece.found)) }
 
-    pub behind_clear : Searched from (exact_from f k b) Clear w' w'' → Behind f from lo n (b + k) w w''
+    pub behind_clear : Searched from (exact_from f k b) None w' w'' → Behind f from lo n (b + k) w w''
     behind_clear piece = record { kept = within_then p.kept piece.kept; some = omega arith; rest = p.rest ∙ rw (later_cut f (lo + n) b k h, ← piece.found) }
 
 -- What lies past the working memory stays where bounds were made before the search.
-pub searched_after : {from : ℕ} {e : Exact} {r : Found} {w w' w'' : List ℕ} → Within 0 work_numbers w w' → Searched from e r w' w'' → Searched 0 e r w w''
+pub searched_after : {from : ℕ} {e : Exact} {r : Option Interval} {w w' w'' : List ℕ} → Within 0 work_numbers w w' → Searched from e r w' w'' → Searched 0 e r w w''
 searched_after kept found = record { kept = within_then kept (within_wider found.kept 0 work_numbers (omega arith) (omega arith)); found = found.found }
 
 -- The ends from 1 to the horizon are all.
@@ -94,5 +94,5 @@ exact_from_lem : (s : Sheet) → exact_from (exact_sum s) s.horizon 1 ≡ exact 
 unfolding exact
 exact_from_lem s = refl
 
-pub searched_all : (s : Sheet) {from n : ℕ} {r : Found} {w w' : List ℕ} → n ≡ s.horizon → Searched from (exact_from (exact_sum s) n 1) r w w' → Searched from (exact s) r w w'
+pub searched_all : (s : Sheet) {from n : ℕ} {r : Option Interval} {w w' : List ℕ} → n ≡ s.horizon → Searched from (exact_from (exact_sum s) n 1) r w w' → Searched from (exact s) r w w'
 searched_all s e all = record { kept = all.kept; found = all.found ∙ ap (λ (n : ℕ). exact_from (exact_sum s) n 1) e ∙ exact_from_lem s }

@@ -1,6 +1,6 @@
 -- The search for the first interval that is over, range by range and tile by tile: what the bounds and the cells hold of a sheet, and what a search
 -- leaves. Assumes nothing.
-use Rattle.std.specs.Prelude.{◌≡◌, true, false, List, ℕ, ◌+◌, ◌-◌, ◌≤◌, ◌<◌, take}
+use Rattle.std.specs.Prelude.{Option, ◌≡◌, true, false, List, ℕ, ◌+◌, ◌-◌, ◌≤◌, ◌<◌, take}
 use Rattle.model.specs.Lists.{sum_of}
 use Rattle.model.specs.Sheet.{Module, Sheet}
 use Rattle.model.specs.Limits.{work_numbers}
@@ -8,7 +8,7 @@ use Rattle.model.specs.Run.{first}
 use Rattle.model.specs.Demand.{value}
 use Rattle.model.specs.Verdict.{Exact, exact_sum}
 use Rattle.layers.specs.Step.{look}
-use Rattle.cells.specs.declared.Found.{Found}
+use Rattle.cells.specs.declared.Interval.{Interval}
 use Rattle.memory.specs.Map.{layer_from}
 use Rattle.cells.specs.Cells.{in_question, cell_at, found_of}
 use Rattle.tiles.specs.Tiles.{Within}
@@ -48,6 +48,6 @@ pub record Filled (s : Sheet) (k lo width : ℕ) (w w' : List ℕ) : Type 0 wher
   pub cells : CellsOf s k lo width w'
 
 -- a search has found what e says; the numbers before the one of the number from, and all that lies past the working memory, are as they were
-pub record Searched (from : ℕ) (e : Exact) (r : Found) (w w' : List ℕ) : Type 0 where
+pub record Searched (from : ℕ) (e : Exact) (r : Option Interval) (w w' : List ℕ) : Type 0 where
   pub kept : Within from work_numbers w w'
   pub found : found_of r ≡ e

@@ -6,7 +6,6 @@ ghost use Rattle.std.specs.Io.KnownBytes.{Consumes, IsAtEnd};
 ghost use Rattle.model.specs.Limits.{max_bytes};
 
 use judge::Sheet;
-use report::Report;
 use std::io;
 use std::io::{Read, Write};
 
@@ -41,7 +40,7 @@ fn main(rt: HostRuntime) -> io::Result<()> {
     let mut out = [0u8; report::OUT_BYTES];
     let n = read_full(&mut rt.reader(), &mut bytes)?;
     let lines = printing::put_lines(&bytes[..n], &mut work, &mut tape, &mut out);
-    if let Report::Written { count } = lines {
+    if let Ok(count) = lines {
         io::writer(&rt).write_all(&out[..count])?;
     }
     Ok(())

@@ -2,12 +2,12 @@
 use mathlib.Core.Path.{◌≡◌, sym, ◌∙◌, ap, subst}
 use mathlib.Core.Bool.{and-eq-true_iff}
 use mathlib.Core.List.{List}
-use Prim.Native.Nat.{ℕ, ◌-◌, ◌≤◌, ◌<◌}
+use Prim.Native.Nat.{ℕ, ◌≤◌, ◌<◌}
 use native.Mathlib.Omega.{arith}
-use lib.ListN.{length, drop}
-use lib.Seq.{drop-drop}
+use lib.ListN.{length, take, drop, length-append, length-drop}
+use Rattle.std.specs.Prelude.{◌++◌}
+use lib.Seq.{length-take-le, drop-append-add, drop-drop}
 use borrow.Author.Tests.{ltb-true, leb-true}
-use borrow.Rule.Slice.PartMut.{put_mid, mid_of, mid_len, same_len_mid, drop_put}
 use Rattle.model.specs.Sheet.{module_at}
 use Rattle.model.specs.Limits.{max_horizon, work_numbers}
 use Rattle.model.specs.Run.{at, mode_at}
@@ -28,6 +28,7 @@ short_horizon bytes accepted = (accepted_well_formed bytes (sheet_in bytes) acce
 -- The state demand.
 module _ (bytes : List ℕ) (k m d L work : ℕ) where
   pub record InState : Type 0 where
+    pub accepted : Accepted bytes
     pub number : k < length (sheet_in bytes).modules
     pub mode : m < length (module_at (sheet_in bytes) k).modes
     pub time : d < (mode_at (module_at (sheet_in bytes) k) m).period
@@ -39,6 +40,7 @@ module _ (bytes : List ℕ) (k m d L work : ℕ) where
       let r = simp and-eq-true_iff at met.in_range in
       let l : L ≤ (sheet_in bytes).horizon = leb-true L (sheet_in bytes).horizon r.1 in
       record {
+        accepted = met.accepted;
         number = ltb-true _ _ r.0.0.0;
         mode = ltb-true _ _ r.0.0.1;
         time = ltb-true _ _ r.0.1;
@@ -52,6 +54,7 @@ module _ (bytes : List ℕ) (k m d L work : ℕ) where
 -- The module demand.
 module _ (bytes : List ℕ) (k L work : ℕ) where
   pub record InModule : Type 0 where
+    pub accepted : Accepted bytes
     pub number : k < length (sheet_in bytes).modules
     pub short : L ≤ max_horizon
     pub room : work_numbers ≤ work
@@ -60,16 +63,16 @@ module _ (bytes : List ℕ) (k L work : ℕ) where
   in_module met =
       let r = simp and-eq-true_iff at met.in_range in
       let l : L ≤ (sheet_in bytes).horizon = leb-true L (sheet_in bytes).horizon r.1 in
-      record { number = ltb-true _ _ r.0; short = omega (arith, short_horizon bytes met.accepted); room = leb-true _ _ met.enough }
+      record { accepted = met.accepted; number = ltb-true _ _ r.0; short = omega (arith, short_horizon bytes met.accepted); room = leb-true _ _ met.enough }
 
   pub module_is : {v : ℕ} → Meets (module_terms k L work) bytes → v ≡ module_demand (module_at (sheet_in bytes) k) L → ModuleAnswer bytes k L work (given v)
   module_is {v} met e = subst (ModuleAnswer bytes k L work) (met_given (module_terms k L work) bytes met _ ∙ ap given (sym e)) (module_answer_lem bytes k L work)
 
 -- The lent memory with another layer in its first part.
-pub stays_layer : (w ys : List ℕ) → work_numbers ≤ length w → length ys ≡ length (mid_of 0 (layer_numbers - 0) w) → Stays work_numbers w (put_mid 0 (layer_numbers - 0) w ys)
+pub stays_layer : (w ys : List ℕ) → work_numbers ≤ length w → length ys ≡ length (take layer_numbers w) → Stays work_numbers w (ys ++ drop layer_numbers w)
 stays_layer w ys room e =
-    let l : length ys ≡ layer_numbers = e ∙ mid_len 0 layer_numbers w (omega arith) in
+    let l : length ys ≡ layer_numbers = e ∙ length-take-le layer_numbers w (omega arith) in
     record {
-      len = same_len_mid 0 (layer_numbers - 0) w ys e;
-      above = sym (drop-drop layer_numbers layer_numbers (put_mid 0 (layer_numbers - 0) w ys)) ∙ ap (drop layer_numbers) (drop_put 0 layer_numbers w ys (omega arith) (omega arith) l) ∙ drop-drop layer_numbers layer_numbers w;
+      len = omega (arith, length-append ys (drop layer_numbers w), length-drop layer_numbers w);
+      above = rw l at (drop-append-add ys (drop layer_numbers w) layer_numbers) ∙ drop-drop layer_numbers layer_numbers w;
     }

@@ -51,9 +51,6 @@ module _ (w ys : List ℕ) (room : work_numbers ≤ length w) where
 module _ (s : Shape) (numbers : List ℕ) where
   -- A module that is told has at most 8 modes and 8,192 states.
 
-  pub told_modes : Tells s numbers → s.modes ≤ 8
-  told_modes t = omega (arith, t.told.modes, t.rule.most)
-
   pub told_states : Tells s numbers → total s.periods s.modes ≤ layer_numbers
   told_states t = omega (arith, states_told t.owner s numbers t.told, states_bound t.owner t.rule)
 
@@ -70,21 +67,6 @@ module _ (s : Shape) (numbers : List ℕ) where
 
   pub layered_more : (L : ℕ) (w w' : List ℕ) → Advanced s numbers L w w' → Layered s numbers L w → Layered s numbers (L + 1) w'
   layered_more L w w' a layer m ok told = a.layer m ok told (layer m ok told)
-
-  pub run_more : (L : ℕ) (w w' w'' : List ℕ) → RunTo s numbers L w w' → Advanced s numbers L w' w'' → RunTo s numbers (L + 1) w w''
-  run_more L w w' w'' r a = record {
-    len = a.len ∙ r.len;
-    layer = layered_more L w' w'' a r.layer;
-    above = λ x h. a.above x h ∙ r.above x h;
-  }
-
-  -- from the numbers before they were cleared
-  pub run_end : (n K L : ℕ) (w w₀ w' : List ℕ) → n ≡ total s.periods s.modes → Cleared n w w₀ → K ≡ L → RunTo s numbers K w₀ w' → RunTo s numbers L w w'
-  run_end n K L w w₀ w' e c same r = record {
-    len = r.len ∙ c.len;
-    layer = λ m ok told. subst (λ (x : ℕ). Layer m x w') same (r.layer m ok told);
-    above = λ x h. r.above x h ∙ c.above x (omega arith);
-  }
 
   pub layer_demand : (L n v : ℕ) (w : List ℕ) → n ≡ total s.periods s.modes → v ≡ max_below (look w) n → Layered s numbers L w → Demands s numbers L v
   layer_demand L n v w e same layer m ok told = same ∙ ap (max_below (look w)) e ∙ layer_largest m s numbers told L w (layer m ok told)

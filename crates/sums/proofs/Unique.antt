@@ -11,8 +11,8 @@ use Rattle.layers.specs.declared.Shape.{Shape}
 use Rattle.layers.specs.Step.{look}
 use Rattle.layers.specs.Layer.{Tells, Each}
 use Rattle.layers.proofs.Unique.{each_unique, holds_unique}
-use Rattle.sums.specs.declared.Over.{Over}
-use Rattle.sums.specs.declared.Over.TheVariants.{Clear, At}
+use Rattle.std.specs.Prelude.{Option, Some, None}
+use Rattle.sums.specs.declared.Excess.{Excess}
 use Rattle.sums.specs.Sums.{RunTo, Demands, Beside, Summed, quick_of}
 
 module _ {s : Shape} {numbers : List ℕ} (t : Tells s numbers) where
@@ -44,8 +44,12 @@ module _ {s : Shape} {numbers : List ℕ} (t : Tells s numbers) where
       pick x low high (no a) = h.beside.later x (omega arith) high ∙ sym (g.beside.later x (omega arith) high)
 
 -- first_over
-pub over_unique : (q : Quick) (r r' : Over) → quick_of r ≡ q → quick_of r' ≡ q → r ≡ r'
-over_unique q Clear Clear e e' = cc
-over_unique q Clear (At n v) e e' = cc
-over_unique q (At n v) Clear e e' = cc
-over_unique q (At n v) (At n' v') e e' = cc
+pub over_unique : (q : Quick) (r r' : Option Excess) → quick_of r ≡ q → quick_of r' ≡ q → r ≡ r'
+over_unique q None None e e' = cc
+over_unique q None (Some x) e e' = cc
+over_unique q (Some x) None e e' = cc
+over_unique q (Some x) (Some y) e e' =
+    let same : quick_of (Some x) ≡ quick_of (Some y) = e ∙ sym e' in
+    let same_length : x.length ≡ y.length = cc in
+    let same_demand : x.demand ≡ y.demand = cc in
+    λ i. Some (record { length = same_length i; demand = same_demand i })

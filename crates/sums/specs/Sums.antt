@@ -1,5 +1,5 @@
 -- What is worked out over one module that numbers tell, and what a row of sums holds. Assumes nothing.
-use Rattle.std.specs.Prelude.{◌≡◌, List, ℕ, ◌+◌, ◌*◌, ◌≤◌, ◌<◌, length}
+use Rattle.std.specs.Prelude.{Option, Some, None, ◌≡◌, List, ℕ, ◌+◌, ◌*◌, ◌≤◌, ◌<◌, length}
 use Rattle.model.specs.Limits.{max_horizon}
 use Rattle.model.specs.Sheet.{Module}
 use Rattle.model.specs.WellFormed.{ModuleRule}
@@ -9,8 +9,7 @@ use Rattle.memory.specs.Map.{marks_from, layer_part}
 use Rattle.layers.specs.declared.Shape.{Shape}
 use Rattle.layers.specs.Step.{look, total}
 use Rattle.layers.specs.Layer.{Layer, Told, Each}
-use Rattle.sums.specs.declared.Over.{Over}
-use Rattle.sums.specs.declared.Over.TheVariants.{Clear, At}
+use Rattle.sums.specs.declared.Excess.{Excess}
 
 -- w is the layer of length L of whichever module the numbers tell
 abbrev pub Layered : Shape → List ℕ → ℕ → List ℕ → Type 0
@@ -54,6 +53,6 @@ pub record Summed (s : Shape) (numbers : List ℕ) (n : ℕ) (w w' : List ℕ) :
 
 -- The answer.
 
-abbrev pub quick_of : Over → Quick
-quick_of Clear = Quick.clear
-quick_of (At length sum) = Quick.over length sum
+abbrev pub quick_of : Option Excess → Quick
+quick_of None = Quick.clear
+quick_of (Some x) = Quick.over x.length x.demand

@@ -16,11 +16,11 @@ ghost use Rattle.sums.specs.Sums.{Layered, RunTo, Demands, Fits, Added, Summed, 
 use layers::Shape;
 use memory::{LAYER_FROM, MARKS_FROM};
 
-// Whether a sum exceeds its length: the first length that has one, with its sum.
-#[derive(Clone, Copy)]
-pub enum Over {
-    Clear,
-    At { length: u16, sum: u32 },
+/// A length that its sum exceeds, and that sum.
+#[derive(Clone, Copy, Debug, PartialEq, Eq)]
+pub struct Excess {
+    pub length: u16,
+    pub demand: u32,
 }
 
 // How many states the module has.
@@ -28,9 +28,7 @@ fn states_of(shape: Shape) -> usize
     requires { shape.modes ≤ 8 }
     ensures { result ≡ total shape.periods shape.modes }
 {
-    let n = shape.modes;
-    let periods = shape.periods;
-    layers::states(periods, n)
+    layers::states(shape.periods, shape.modes)
 }
 
 // The layer for l ticks. What lies past the module's states stays.
@@ -39,10 +37,8 @@ pub fn run_to(layer: &mut [u32], l: usize, shape: Shape, numbers: &[u16])
     ensures { RunTo shape numbers.now l layer.old layer.new }
 {
     layers::clear(layer, states_of(shape));
-    let mut i = 0;
-    while i < l {
+    for i in 0..l {
         layers::advance(layer, i, shape, numbers);
-        i += 1;
     }
 }
 
@@ -59,9 +55,7 @@ pub fn demand_at(
     ensures { (m : Module) → ModuleRule m → Told m shape numbers.now → result ≡ value m 0 l (at k d) }
 {
     run_to(layer, l, shape, numbers);
-    let periods = shape.periods;
-    let x = layers::place(periods, k, d, l);
-    layer[x]
+    layer[layers::place(shape.periods, k, d, l)]
 }
 
 // The largest demand in l ticks from any state.
@@ -88,8 +82,7 @@ fn add_next(work: &mut [u32], l: usize, shape: Shape, numbers: &[u16])
     ensures { Added shape numbers.now l work.old work.new }
 {
     let more = next_demand(&mut work[LAYER_FROM..MARKS_FROM], l, shape, numbers);
-    let at = l + 1;
-    work[at] = work[at] + more;
+    work[l + 1] += more;
 }
 
 // To the sum of each length from 1 to the horizon the largest demand in so many ticks from any state is added. The layer stands behind the sums.
@@ -98,10 +91,8 @@ pub fn add_demands(work: &mut [u32], horizon: usize, shape: Shape, numbers: &[u1
     ensures { Summed shape numbers.now horizon work.old work.new }
 {
     layers::clear(&mut work[LAYER_FROM..MARKS_FROM], states_of(shape));
-    let mut l = 0;
-    while l < horizon {
+    for l in 0..horizon {
         add_next(work, l, shape, numbers);
-        l += 1;
     }
 }
 
@@ -114,20 +105,13 @@ pub fn clear_sums(work: &mut [u32], horizon: usize)
 }
 
 // The first length from 1 to the horizon whose sum exceeds it.
-pub fn first_over(work: &[u32], horizon: usize) -> Over
+pub fn first_over(work: &[u32], horizon: usize) -> Option<Excess>
     requires { (horizon ≤ 2000) × (horizon < length work.now) }
     ensures { quick_of result ≡ quick_from (look work.now) horizon 1 }
 {
-    let mut l = 1;
-    while l <= horizon {
-        let sum = work[l];
-        if (l as u32) < sum {
-            return Over::At {
-                length: l as u16,
-                sum,
-            };
-        }
-        l += 1;
-    }
-    Over::Clear
+    let l = (1..horizon + 1).find(|l| (*l as u32) < work[*l])?;
+    Some(Excess {
+        length: l as u16,
+        demand: work[l],
+    })
 }

@@ -1,33 +1,15 @@
 -- Filling rows and stretches one place after the other. Assumes nothing.
 use mathlib.Core.Path.{◌≡◌, refl, sym, ◌∙◌}
 use mathlib.Core.List.{List, ◌++◌}
-use Prim.Native.Nat.{ℕ, ◌+◌, ◌-◌, ◌≤◌, ◌<◌}
+use denote.Param.Members.{Mut, Called}
+use Rattle.std.specs.Array.{IsFromFnResultFrom, IsFromFnResult}
+use Prim.Native.Nat.{ℕ, zero, suc, ◌+◌, ◌-◌, ◌≤◌, ◌<◌}
 use native.Mathlib.Decide.{dec_lt, ℕ_discrete}
 use native.Mathlib.Omega.{arith}
 use lib.ListN.{length, get_or, set, take, length-set, length-append, get_or-append, get_or-eq_default, replicate, length-replicate, get_or-replicate}
 use lib.Seq.{get_or-set_same, get_or-set_other, get_or-take, length-take-le, get_or-append-add}
 use Rattle.table.specs.Rows.{Row}
 use Rattle.table.specs.Numbers.{Written}
-
--- A row of n figures that is filled from its front: for every k that has P, its first i figures are those of f k.
-pub record Filled {A : Type 0} (P : ℕ → Type 0) (d : A) (n : ℕ) (f : ℕ → ℕ → A) (row : List A) (i : ℕ) : Type 0 where
-  pub few : i ≤ n
-  pub size : length row ≡ n
-  pub each : (k : ℕ) → P k → (x : ℕ) → x < i → get_or row x d ≡ f k x
-
-module _ {A : Type 0} {P : ℕ → Type 0} {d : A} {n : ℕ} {f : ℕ → ℕ → A} where
-  pub filled_none : {row : List A} → length row ≡ n → Filled P d n f row 0
-  filled_none e = record { few = omega arith; size = e; each = λ k h x l. absurd (omega arith) }
-
-  pub filled_more : {row : List A} {i : ℕ} → Filled P d n f row i → i < n → (v : A) → ((k : ℕ) → P k → v ≡ f k i) → Filled P d n f (set row i v) (i + 1)
-  filled_more {row} {i} g l v e = record { few = omega arith; size = length-set row i v ∙ g.size; each = λ k h x s. at k h x s (ℕ_discrete x i) }
-    where
-      at : (k : ℕ) → P k → (x : ℕ) → x < i + 1 → Dec (x ≡ i) → get_or (set row i v) x d ≡ f k x
-      at k h x s (yes q) = let inside : i < length row = omega (arith, g.size) in rw (q) (get_or-set_same row i v d inside ∙ e k h)
-      at k h x s (no q) = get_or-set_other row i x v d q ∙ g.each k h x (omega arith)
-
-  pub filled_all : {row : List A} {i : ℕ} → Filled P d n f row i → n ≤ i → (k : ℕ) → P k → Row d n (f k) row
-  filled_all g l k h = record { size = g.size; each = λ x s. g.each k h x (omega arith) }
 
 -- A stretch that is written.
 
@@ -77,3 +59,16 @@ row_written n xs ys before after r w = record { size = w.size ∙ r.size; each =
 
 pub row_blank : {A : Type 0} (d : A) (n : ℕ) (f : ℕ → A) → ((i : ℕ) → f i ≡ d) → Row d n f (replicate n d)
 row_blank d n f e = record { size = length-replicate n d; each = λ i l. get_or-replicate n i d d l ∙ sym (e i) }
+
+-- A row that a closure made, which stays as it is and gives w i at each index i.
+module _ {A F : Type 0} (g : Mut F (ℕ × Unit {0}) A) (f : F) (d : A) (w : ℕ → A) (row : List A) (gives : (i : ℕ) (y : A) (q : F) → Called g f (i, tt) y q → (q ≡ f) × (y ≡ w i)) where
+  made_from : (n i : ℕ) → IsFromFnResultFrom g f row i n → (x : ℕ) → i ≤ x → x < i + n → get_or row x d ≡ w x
+  made_from zero i r x l h = absurd (omega arith)
+  made_from (suc n) i (q, y, here, call, rest) x l h = at (ℕ_discrete x i) (λ s. made_from n (i + 1) (rw (gives i y q call).0 at rest) x s (omega arith))
+    where
+      at : Dec (x ≡ i) → (i + 1 ≤ x → get_or row x d ≡ w x) → get_or row x d ≡ w x
+      at (yes e) later = rw e (here.1 d ∙ (gives i y q call).1)
+      at (no e) later = later (omega arith)
+
+  pub row_made : (n : ℕ) → IsFromFnResult g f row n → Row d n w row
+  row_made n r = record { size = r.long; each = λ i l. made_from n 0 r.each i (omega arith) (omega arith) }

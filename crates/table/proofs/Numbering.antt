@@ -1,7 +1,8 @@
 -- The tasks of a module as numbers: how many there are, and where each stands in the bytes of an accepted sheet. Assumes nothing.
-use mathlib.Core.Path.{◌≡◌, ◌∙◌, ap}
+use mathlib.Core.Path.{◌≡◌, sym, ◌∙◌, ap}
 use mathlib.Core.List.{List, [], ◌∷◌, ◌++◌, append-nil}
-use Prim.Native.Nat.{ℕ, zero, suc, ◌+◌, ◌*◌, ◌/◌, ◌%◌, ◌≤◌, ◌<◌}
+use Prim.Native.Nat.{ℕ, zero, suc, ◌+◌, ◌*◌, ◌/◌, ◌%◌, ◌≤◌, ◌<◌, min}
+use native.Mathlib.Decide.{dec_lt}
 use native.Mathlib.Omega.{arith}
 use lib.ListN.{length, get_or, take, length-append}
 use lib.Seq.{take-suc, take_all, take-length}
@@ -36,8 +37,16 @@ start_step m j h =
     ∙ omega (arith, length_task_numbers (mode_at m j).tasks)
 
 -- past the modes
-pub start_past : (m : Module) (j : ℕ) → length m.modes ≤ j → start_of m j ≡ start_of m (length m.modes)
+start_past : (m : Module) (j : ℕ) → length m.modes ≤ j → start_of m j ≡ start_of m (length m.modes)
 start_past m j h = rw (take_all j m.modes h, take-length m.modes)
+
+-- where it begins, looked up no further than where all end
+pub start_min : (m : Module) (j : ℕ) → start_of m (min j (length m.modes)) ≡ start_of m j
+start_min m j = pick (dec_lt j (length m.modes))
+  where
+    pick : Dec (j < length m.modes) → start_of m (min j (length m.modes)) ≡ start_of m j
+    pick (yes l) = let e : min j (length m.modes) ≡ j = omega arith in ap (start_of m) e
+    pick (no l) = let e : min j (length m.modes) ≡ length m.modes = omega arith in ap (start_of m) e ∙ sym (start_past m j (omega arith))
 
 module _ (bs : List ℕ) (accepted : Accepted bs) (k : ℕ) (number : k < length (sheet_in bs).modules) where
   rule : ModuleRule (module_at (sheet_in bs) k)

@@ -23,7 +23,6 @@ tasks_of bs k j = (mode_at (module_at (sheet_in bs) k) j).tasks
 
 -- of the n numbers of the mode at p the first i stand from the place at on
 pub record Put (bs : List ℕ) (p at n : ℕ) (before after : List ℕ) (i : ℕ) : Type 0 where
-  pub few : i ≤ n
   pub small : n ≤ 64
   pub fours : n % 4 ≡ 0
   pub within : p + 4 + 10 * (n / 4) ≤ length bs
@@ -38,7 +37,6 @@ tasks_small bs accepted p t some e =
 pub put_none : (bs : List ℕ) → Accepted bs → AreBytes bs → (p at t : ℕ) (before : List ℕ) → SomeMode (sheet_in bs) p → ((k j : ℕ) → ModeThere (sheet_in bs) k j p → t ≡ length (tasks_of bs k j)) → Put bs p at (4 * t) before before 0
 put_none bs accepted bytes p at t before some e =
     record {
-      few = omega arith;
       small = omega (arith, tasks_small bs accepted p t some e);
       fours = omega arith;
       within = omega (arith, e some.k some.j some.there, some_within bs accepted bytes p some);
@@ -48,7 +46,7 @@ put_none bs accepted bytes p at t before some e =
 
 module _ {bs : List ℕ} {p at n : ℕ} {before after : List ℕ} {i : ℕ} (w : Put bs p at n before after i) where
   pub put_more : Accepted bs → AreBytes bs → at + 64 ≤ length before → i < n → (v : ℕ) → v ≡ field_at bs (p + 6 + 10 * (i / 4) + 2 * (i % 4)) → Put bs p at n before (set after (at + i) v) (i + 1)
-  put_more accepted bytes room l v e = record { few = omega arith; small = w.small; fours = w.fours; within = w.within; all = w.all; each = next }
+  put_more accepted bytes room l v e = record { small = w.small; fours = w.fours; within = w.within; all = w.all; each = next }
     where
       next : (k j : ℕ) → ModeThere (sheet_in bs) k j p → Written at (take (i + 1) (task_numbers (tasks_of bs k j))) before (set after (at + i) v)
       next k j h =
@@ -58,8 +56,8 @@ module _ {bs : List ℕ} {p at n : ℕ} {before after : List ℕ} {i : ℕ} (w :
           let some-room : at + length (task_numbers ks) ≤ length before = omega (arith, w.small) in
           written_more at i (task_numbers ks) before after (w.each k j h) (omega arith) some-room v (e ∙ number_there bs accepted bytes k j p h i inside)
 
-  pub put_all : n ≤ i → (k j : ℕ) → ModeThere (sheet_in bs) k j p → Written at (task_numbers (tasks_of bs k j)) before after
+  pub put_all : i ≡ n → (k j : ℕ) → ModeThere (sheet_in bs) k j p → Written at (task_numbers (tasks_of bs k j)) before after
   put_all l k j h =
       let ks : List Task = tasks_of bs k j in
-      let e : i ≡ length (task_numbers ks) = omega (arith, w.few, w.all k j h, length_task_numbers ks) in
+      let e : i ≡ length (task_numbers ks) = omega (arith, w.all k j h, length_task_numbers ks) in
       rw (e, take-length (task_numbers ks)) at (w.each k j h)

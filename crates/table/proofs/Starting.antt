@@ -1,5 +1,5 @@
 -- Walking the modes of a module with the count of their tasks' numbers. Assumes nothing.
-use mathlib.Core.Path.{◌≡◌, refl, sym}
+use mathlib.Core.Path.{◌≡◌, refl}
 use mathlib.Core.List.{List}
 use Prim.Native.Nat.{ℕ, ◌+◌, ◌*◌, ◌≤◌, ◌<◌}
 use native.Mathlib.Numerals.{add-one}
@@ -24,22 +24,25 @@ pub record Counted (bs : List ℕ) (p j q n i : ℕ) : Type 0 where
 pub none_of : {s : Sheet} {p j : ℕ} → SomeModes s p j → SomeModes s p 0
 none_of some = record { k = some.k; there = record { number = some.there.number; place = some.there.place; most = omega arith } }
 
+-- none are passed
+pub modes_from : {s : Sheet} {p j q : ℕ} → ((k : ℕ) → ModesThere s k p 0 → q ≡ mode_place s k 0) → Modes s p j q 0
+modes_from e = record { place = λ k h. e k (record { number = h.number; place = h.place; most = omega arith }) }
+
 pub counted_none : {bs : List ℕ} {p j q : ℕ} → Accepted bs → SomeModes (sheet_in bs) p j → ((k : ℕ) → ModesThere (sheet_in bs) k p 0 → q ≡ mode_place (sheet_in bs) k 0) → Counted bs p j q 0 0
 counted_none a some e =
     record {
       accepted = a;
       some = some;
-      modes = record { few = omega arith; place = λ k h. e k (record { number = h.number; place = h.place; most = omega arith }) };
+      modes = modes_from e;
       number = λ k h. refl;
     }
 
 module _ {bs : List ℕ} {p j q n i : ℕ} (c : Counted bs p j q n i) where
   -- at most 8 modes of at most 64 numbers
-  pub counted_few : (j ≤ 8) × (n ≤ 64 * i)
-  counted_few =
+  pub counted_few : i ≤ j → (j ≤ 8) × (n ≤ 64 * i)
+  counted_few few =
       let k : ℕ = c.some.k in
       let there : ModesThere (sheet_in bs) k p j = c.some.there in
-      let few : i ≤ j = c.modes.few in
       let h : length (module_at (sheet_in bs) k).modes ≤ 8 = modes_few bs c.accepted k there.number in
       (omega arith, omega (arith, c.number k there, start_most bs c.accepted k there.number i (omega arith)))
 
@@ -61,9 +64,6 @@ module _ {bs : List ℕ} {p j q n i : ℕ} (c : Counted bs p j q n i) where
           step k h =
               let next : ModeThere (sheet_in bs) k i q = mode_next c.modes l k h in
               rw (add-one i) (omega (arith, c.number k h, tasks k i next, start_step (module_at (sheet_in bs) k) i next.mode))
-
-pub counted_all : {bs : List ℕ} {p j q n i : ℕ} → Counted bs p j q n i → j ≤ i → (k : ℕ) → ModesThere (sheet_in bs) k p j → n ≡ start_of (module_at (sheet_in bs) k) j
-counted_all {j = j} {i = i} c l k h = let few : i ≤ j = c.modes.few in let e : i ≡ j = omega arith in rw (sym e) (c.number k h)
 
 -- The numbers before the mode j of the module at p.
 

@@ -1,14 +1,14 @@
--- Looking for a switch of the mode at a place, and the figures past the modes. Assumes nothing.
+-- Looking for a switch of the mode at a place. Assumes nothing.
 use mathlib.Core.Path.{◌≡◌, refl, sym, ◌∙◌, ap}
 use mathlib.Core.Bool.{Bool, true, false, cond, ◌||◌}
 use mathlib.Core.List.{List, [], ◌∷◌}
 use Prim.Native.Nat.compare
-use Prim.Native.Nat.{ℕ, suc, ◌+◌, ◌*◌, ◌≤◌, ◌<◌}
-use native.Mathlib.Numerals.{add-one}
+use Prim.Native.Nat.{ℕ, zero, suc, ◌+◌, ◌*◌, ◌≤◌, ◌<◌}
+use native.Mathlib.Nat.{le_of_suc-le-suc}
 use native.Mathlib.Omega.{arith}
 use lib.Dec.{eqb, ltb}
-use lib.ListN.{length, get_or, drop, get_or-eq_default, drop_of_length-le}
-use lib.Seq.{drop-cons}
+use Rattle.std.proofs.lemmas.Bool.{true≢false}
+use lib.ListN.{length, get_or}
 use borrow.Author.Tests.{eq-eqb, ne_eqb, lt-ltb}
 use Rattle.model.specs.Sheet.{SW, Switch, module_at, named}
 use Rattle.model.specs.Run.{mode_at}
@@ -16,10 +16,13 @@ use Rattle.format.specs.Record.{fields_of, field_at}
 use Rattle.format.specs.Judgement.{sheet_in, Accepted}
 use Rattle.format.specs.Refusal.{AreBytes}
 use Rattle.format.specs.Place.{mode_place}
-use Rattle.place.specs.There.{ModeThere, SomeMode}
-use Rattle.place.proofs.Counting.{switches_within}
+use Rattle.place.specs.There.{ModeThere}
 use Rattle.place.proofs.Standing.{switch_record}
+use Rattle.std.specs.Option.{MatchOption, is_some}
+use Rattle.std.specs.declared.option.Option.{Option}
+use Rattle.std.specs.declared.option.Option.TheVariants.{Some, None}
 use Rattle.table.specs.Rows.{period_to, index_to}
+use Rattle.table.specs.Found.{FirstTo}
 
 -- The first switch that names t.
 
@@ -43,31 +46,18 @@ period_index t (w ∷ ws) = pick (eqb t w.target) (period_index t ws)
     pick true later = refl
     pick false later = later
 
--- the first i switches do not name t
-abbrev pub Searched : ℕ → List Switch → ℕ → Type 0
-Searched t ws i = index_to t ws ≡ i + index_to t (drop i ws)
+named_none : (t : ℕ) (ws : List Switch) → ((i : ℕ) → i < length ws → (get_or ws i none).target ≡ t → ⊥) → named t ws ≡ false
+named_none t [] others = refl
+named_none t (w ∷ ws) others =
+    let other : eqb t w.target ≡ false = ne_eqb _ _ (λ e. others 0 (omega arith) (sym e)) in
+    rw other (named_none t ws (λ i l. others (suc i) (omega arith)))
 
-pub searched_none : (t : ℕ) (ws : List Switch) → Searched t ws 0
-searched_none t ws = omega arith
-
-module _ (t : ℕ) (ws : List Switch) (i : ℕ) (s : Searched t ws i) where
-  pub searched_more : i < length ws → ((get_or ws i none).target ≡ t → ⊥) → Searched t ws (i + 1)
-  searched_more l q =
-      let other : eqb t (get_or ws i none).target ≡ false = ne_eqb _ _ (λ e. q (sym e)) in
-      let step : index_to t (drop i ws) ≡ suc (index_to t (drop (suc i) ws)) = rw (drop-cons ws i none l, other) in
-      rw (add-one i) (omega arith)
-
-  pub searched_found : i < length ws → (get_or ws i none).target ≡ t → i ≡ index_to t ws
-  searched_found l q =
-      let same : eqb t (get_or ws i none).target ≡ true = eq-eqb _ _ (sym q) in
-      let here : index_to t (drop i ws) ≡ 0 = rw (drop-cons ws i none l, same) in
-      omega arith
-
-  pub searched_all : i ≡ length ws → i ≡ index_to t ws
-  searched_all e =
-      let l : length ws ≤ i = omega arith in
-      let past : index_to t (drop i ws) ≡ 0 = rw (drop_of_length-le ws l) in
-      omega arith
+index_first : (t : ℕ) (ws : List Switch) (i : ℕ) → i < length ws → (get_or ws i none).target ≡ t → ((x : ℕ) → x < i → (get_or ws x none).target ≡ t → ⊥) → i ≡ index_to t ws
+index_first t [] i l same others = absurd (omega arith)
+index_first t (w ∷ ws) zero l same others = let here : eqb t w.target ≡ true = eq-eqb _ _ (sym same) in rw here refl
+index_first t (w ∷ ws) (suc i) l same others =
+    let other : eqb t w.target ≡ false = ne_eqb _ _ (λ e. others 0 (omega arith) (sym e)) in
+    rw other (ap suc (index_first t ws i (le_of_suc-le-suc l) same (λ x h. others (suc x) (omega arith))))
 
 -- The fields of the switch i of the mode at p, whose switches begin at q.
 module _ (bs : List ℕ) (accepted : Accepted bs) (bytes : AreBytes bs) (p q : ℕ) (k j : ℕ) (there : ModeThere (sheet_in bs) k j p)
@@ -81,65 +71,35 @@ module _ (bs : List ℕ) (accepted : Accepted bs) (bytes : AreBytes bs) (p q : �
   pub switch_period : field_at bs (q + 6 * i + 4) ≡ (get_or (mode_at (module_at (sheet_in bs) k) j).switches i none).period
   switch_period = at_place 4 ∙ ap (λ r. get_or (fields_of r) 1 0) (switch_record bs accepted bytes k there.number j there.mode i none l)
 
--- Of the n switches of the mode at p, which begin at q, the first i do not name t.
-pub record Looked (bs : List ℕ) (p t q n i : ℕ) : Type 0 where
-  pub accepted : Accepted bs
-  pub bytes : AreBytes bs
-  pub few : i ≤ n
-  pub within : q + 6 * n ≤ length bs
-  pub behind : (k j : ℕ) → ModeThere (sheet_in bs) k j p → q ≡ p + 4 + 10 * length (mode_at (module_at (sheet_in bs) k) j).tasks
-  pub count : (k j : ℕ) → ModeThere (sheet_in bs) k j p → n ≡ length (mode_at (module_at (sheet_in bs) k) j).switches
-  pub each : (k j : ℕ) → ModeThere (sheet_in bs) k j p → Searched t (mode_at (module_at (sheet_in bs) k) j).switches i
+-- What a search over the numbers of the n switches gives, which asks each for its target.
+pub first_found : (bs : List ℕ) → Accepted bs → AreBytes bs → (p q n t k j : ℕ) → ModeThere (sheet_in bs) k j p → q ≡ p + 4 + 10 * length (mode_at (module_at (sheet_in bs) k) j).tasks
+    → n ≡ length (mode_at (module_at (sheet_in bs) k) j).switches → (r : Option ℕ)
+    → MatchOption r ((i : ℕ) → 0 ≤ i → i < n → field_at bs (q + 6 * i + 2) ≡ t → ⊥)
+    (λ i. (0 ≤ i) × (i < n) × (field_at bs (q + 6 * i + 2) ≡ t) × ((x : ℕ) → 0 ≤ x → x < i → field_at bs (q + 6 * x + 2) ≡ t → ⊥))
+    → FirstTo t (mode_at (module_at (sheet_in bs) k) j).switches r
+first_found bs accepted bytes p q n t k j there behind count None others =
+    named_none t _ (λ i l e. others i (omega arith) (omega (arith, count)) (switch_target bs accepted bytes p q k j there behind i l ∙ e))
+first_found bs accepted bytes p q n t k j there behind count (Some i) found =
+    let l : i < length (mode_at (module_at (sheet_in bs) k) j).switches = omega (arith, count, found.1) in (
+      l,
+      index_first t _ i l (sym (switch_target bs accepted bytes p q k j there behind i l) ∙ found.2)
+          (λ x h e. found.3 x (omega arith) h (switch_target bs accepted bytes p q k j there behind x (omega arith) ∙ e)),
+    )
 
-pub looked_none : (bs : List ℕ) → Accepted bs → AreBytes bs → (p t q n : ℕ) → SomeMode (sheet_in bs) p
-    → ((k j : ℕ) → ModeThere (sheet_in bs) k j p → q ≡ p + 4 + 10 * length (mode_at (module_at (sheet_in bs) k) j).tasks)
-    → ((k j : ℕ) → ModeThere (sheet_in bs) k j p → n ≡ length (mode_at (module_at (sheet_in bs) k) j).switches) → Looked bs p t q n 0
-looked_none bs accepted bytes p t q n some behind count =
-    record {
-      accepted = accepted;
-      bytes = bytes;
-      few = omega arith;
-      within = switches_within bs accepted bytes p some q n behind count;
-      behind = behind;
-      count = count;
-      each = λ k j h. searched_none t (mode_at (module_at (sheet_in bs) k) j).switches;
-    }
-
-module _ {bs : List ℕ} {p t q n i : ℕ} (o : Looked bs p t q n i) where
-  module _ (l : i < n) {v : ℕ} (e : v ≡ field_at bs (q + 6 * i + 2)) where
-    -- the switch i is within the list, and its target is what was read
-    target_read : (k j : ℕ) → ModeThere (sheet_in bs) k j p → (i < length (mode_at (module_at (sheet_in bs) k) j).switches) × (v ≡ (get_or (mode_at (module_at (sheet_in bs) k) j).switches i none).target)
-    target_read k j h =
-        let inside : i < length (mode_at (module_at (sheet_in bs) k) j).switches = omega (arith, o.count k j h) in
-        (inside, e ∙ switch_target bs o.accepted o.bytes p q k j h (o.behind k j h) i inside)
-
-    pub looked_found : v ≡ t → (k j : ℕ) → ModeThere (sheet_in bs) k j p → i ≡ index_to t (mode_at (module_at (sheet_in bs) k) j).switches
-    looked_found f k j h = let (inside, target) = target_read k j h in searched_found t _ i (o.each k j h) inside (sym target ∙ f)
-
-    pub looked_more : (v ≡ t → ⊥) → Looked bs p t q n (i + 1)
-    looked_more f =
-        record {
-          accepted = o.accepted;
-          bytes = o.bytes;
-          few = omega arith;
-          within = o.within;
-          behind = o.behind;
-          count = o.count;
-          each = λ k j h. let (inside, target) = target_read k j h in searched_more t _ i (o.each k j h) inside (λ g. f (target ∙ g));
-        }
-
-  pub looked_all : n ≤ i → (k j : ℕ) → ModeThere (sheet_in bs) k j p → n ≡ index_to t (mode_at (module_at (sheet_in bs) k) j).switches
-  looked_all l k j h =
-      let few : i ≤ n = o.few in
-      let e : n ≡ i = omega arith in
-      e ∙ searched_all t _ i (o.each k j h) (omega (arith, o.count k j h))
+-- whether one is found
+pub found_named : (t : ℕ) (ws : List Switch) (r : Option ℕ) → FirstTo t ws r → is_some r ≡ named t ws
+found_named t ws None e = sym e
+found_named t ws (Some i) (l, e) = sym (named_index t ws ∙ lt-ltb (index_to t ws) (length ws) (omega arith))
 
 -- The period that is read, or 0.
 
-pub period_past : (t i n : ℕ) (ws : List Switch) → i ≡ index_to t ws → n ≡ length ws → n ≤ i → 0 ≡ period_to t ws
-period_past t i n ws e f l =
-    let past : length ws ≤ index_to t ws = omega arith in
-    sym (period_index t ws ∙ rw (get_or-eq_default ws none past))
+pub period_none : (t : ℕ) (ws : List Switch) → named t ws ≡ false → 0 ≡ period_to t ws
+period_none t [] e = refl
+period_none t (w ∷ ws) e = pick (eqb t w.target) (period_none t ws) e
+  where
+    pick : (b : Bool) → (named t ws ≡ false → 0 ≡ period_to t ws) → b || named t ws ≡ false → 0 ≡ cond b w.period (period_to t ws)
+    pick true later h = absurd (true≢false h)
+    pick false later h = later h
 
 pub period_read : (bs : List ℕ) → Accepted bs → AreBytes bs → (p q k j : ℕ) → ModeThere (sheet_in bs) k j p → q ≡ p + 4 + 10 * length (mode_at (module_at (sheet_in bs) k) j).tasks
     → (t i : ℕ) → i ≡ index_to t (mode_at (module_at (sheet_in bs) k) j).switches → i < length (mode_at (module_at (sheet_in bs) k) j).switches

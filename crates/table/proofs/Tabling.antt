@@ -95,12 +95,18 @@ module _ {bs : List ℕ} {rows : List ModuleRow} {p k : ℕ} (t : Tabled bs rows
             rw (q, get_or-take (k + 1) ms k absent (omega arith), get_or-set_same rows k row no_row inside) (this k there)
         at x l (no q) = rw (add-one k, take_other absent ms k x q, get_or-set_other rows k x row no_row q) (t.each x l)
 
-  pub tabled_all : (get_or bs p 0 ≡ 77 → ⊥) → RowsOf (sheet_in bs) rows
-  tabled_all q = record { size = t.size; each = λ x l. rw (take-length ms) at (rw (passed (ℕ_discrete k (length ms))) at (t.each x l)) }
-    where
-      ms : List Module
-      ms = (sheet_in bs).modules
+  pub tabled_passed : k ≡ length (sheet_in bs).modules → RowsOf (sheet_in bs) rows
+  tabled_passed e =
+      let ms : List Module = (sheet_in bs).modules in
+      record { size = t.size; each = λ x l. rw (take-length ms) at (rw (e) at (t.each x l)) }
 
-      passed : Dec (k ≡ length (sheet_in bs).modules) → k ≡ length (sheet_in bs).modules
-      passed (yes e) = e
-      passed (no e) = let few : k ≤ length (sheet_in bs).modules = t.few in absurd (q (rw t.place (module_first bs t.accepted t.bytes k (omega arith))))
+  -- at EN, and where the table is full
+  pub tabled_all : (get_or bs p 0 ≡ 77 → ⊥) → RowsOf (sheet_in bs) rows
+  tabled_all q = tabled_passed (pick (ℕ_discrete k (length (sheet_in bs).modules)))
+    where
+      pick : Dec (k ≡ length (sheet_in bs).modules) → k ≡ length (sheet_in bs).modules
+      pick (yes e) = e
+      pick (no e) = let few : k ≤ length (sheet_in bs).modules = t.few in absurd (q (rw t.place (module_first bs t.accepted t.bytes k (omega arith))))
+
+  pub tabled_full : 8 ≤ k → RowsOf (sheet_in bs) rows
+  tabled_full l = tabled_passed (omega (arith, t.few, t.eight))

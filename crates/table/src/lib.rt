@@ -1,17 +1,21 @@
 // What the modules of an accepted sheet say, by value: periods, switches and tasks.
 #![tactic(auto)]
 
-ghost use Rattle.std.specs.Prelude.{◌≡◌, false, ℕ, ◌+◌, ◌<◌, ◌≤◌, length};
+ghost use Rattle.std.specs.Prelude.{◌≡◌, ℕ, ◌+◌, ◌<◌, ◌≤◌, length};
 ghost use Rattle.model.specs.Sheet.{module_at, named};
 ghost use Rattle.model.specs.Run.{mode_at};
-ghost use Rattle.format.specs.Judgement.{sheet_in, Accepted};
+ghost use Rattle.place.specs.Held.{sheet_of};
 ghost use Rattle.place.specs.There.{ModuleThere, ModesThere, ModeThere, SomeModule, SomeModes, SomeMode};
-ghost use Rattle.table.specs.Rows.{Row, RowOf, RowsOf, period_at, period_to, index_to, switch_period_at, switch_listed_at};
+ghost use Rattle.table.specs.Rows.{Row, RowOf, RowsOf, period_at, period_to, switch_period_at, switch_listed_at};
+ghost use Rattle.table.specs.Found.{FirstTo, ModeIf};
 ghost use Rattle.model.specs.Flat.{task_numbers};
 ghost use Rattle.table.specs.Numbers.{start_of, number_at, TasksOf, Written};
 
+use place::AcceptedSheet;
+use std::array;
+
 /// A module's tasks: those of the mode j are the numbers from starts[j] to starts[j + 1],
-/// four for each task (offset, cost, LET, period); past the last task stands 0.
+/// four for each task (offset, cost, LET, period) and no struct, since the engine's definitions read these numbers; past the last task stands 0.
 #[derive(Clone, Copy)]
 pub struct Tasks {
     pub starts: [u16; 9],
@@ -27,269 +31,213 @@ pub struct ModuleRow {
     pub listed: [bool; 64],
 }
 
+/// An accepted sheet with what the tests look up in it: how many modules it has, its horizon, and the row of each module.
+#[derive(Clone, Copy)]
+pub struct Table<'a> {
+    pub sheet: AcceptedSheet<'a>,
+    pub modules: usize,
+    pub horizon: usize,
+    pub rows: [ModuleRow; 8],
+    pub ghost modules_are: { modules ≡ length (sheet_of sheet).modules },
+    pub ghost horizon_is: { horizon ≡ (sheet_of sheet).horizon },
+    pub ghost rows_are: { RowsOf (sheet_of sheet) rows },
+}
+
 // How many numbers the tasks of the first j modes of the module at p make.
-fn numbers_before(sheet: &[u8], p: usize, j: usize) -> usize
-    requires accepted { Accepted sheet.now }
-    requires some_modes { SomeModes (sheet_in sheet.now) p j }
-    ensures { (k : ℕ) → ModesThere (sheet_in sheet.now) k p j → result ≡ start_of (module_at (sheet_in sheet.now) k) j }
+fn numbers_before(sheet: &AcceptedSheet, p: usize, j: usize) -> usize
+    requires { SomeModes (sheet_of sheet.now) p j }
+    ensures { (k : ℕ) → ModesThere (sheet_of sheet.now) k p j → result ≡ start_of (module_at (sheet_of sheet.now) k) j }
 {
-    let mut q = place::mode_from(sheet, p, 0);
+    let mut q = sheet.mode_from(p, 0);
     let mut n = 0;
-    let mut i = 0;
-    while i < j {
-        n += 4 * place::tasks_at(sheet, q);
-        q = place::after_mode(sheet, q);
-        i += 1;
+    for _ in 0..j {
+        n += 4 * sheet.tasks_at(q);
+        q = sheet.after_mode(q);
     }
     n
 }
 
 // Where the numbers of the mode j of the module at p begin; past the modes, where all end.
-fn start_at(sheet: &[u8], p: usize, j: usize) -> u16
-    requires accepted { Accepted sheet.now }
-    requires some_module { SomeModule (sheet_in sheet.now) p }
-    ensures { (k : ℕ) → ModuleThere (sheet_in sheet.now) k p → result ≡ start_of (module_at (sheet_in sheet.now) k) j }
+fn start_at(sheet: &AcceptedSheet, p: usize, j: usize) -> u16
+    requires { SomeModule (sheet_of sheet.now) p }
+    ensures { (k : ℕ) → ModuleThere (sheet_of sheet.now) k p → result ≡ start_of (module_at (sheet_of sheet.now) k) j }
 {
-    let n = place::modes_at(sheet, p);
-    if n <= j {
-        return numbers_before(sheet, p, n) as u16;
-    }
-    numbers_before(sheet, p, j) as u16
-}
-
-// The starts of the module at p.
-fn task_starts(sheet: &[u8], p: usize) -> [u16; 9]
-    requires accepted { Accepted sheet.now }
-    requires some_module { SomeModule (sheet_in sheet.now) p }
-    ensures { (k : ℕ) → ModuleThere (sheet_in sheet.now) k p → Row 0 9 (start_of (module_at (sheet_in sheet.now) k)) result }
-{
-    let mut row = [0u16; 9];
-    let mut j = 0;
-    while j < 9 {
-        row[j] = start_at(sheet, p, j);
-        j += 1;
-    }
-    row
+    numbers_before(sheet, p, j.min(sheet.modes_at(p))) as u16
 }
 
 // The numbers of the tasks of the mode at p go from the place at on.
-fn put_tasks(numbers: &mut [u16; 512], at: usize, sheet: &[u8], p: usize)
-    requires accepted { Accepted sheet.now }
-    requires some_mode { SomeMode (sheet_in sheet.now) p }
-    requires at_bound { (at + 64 ≤ 512) × (length numbers.old ≡ 512) }
-    ensures { (k j : ℕ) → ModeThere (sheet_in sheet.now) k j p → Written at (task_numbers (mode_at (module_at (sheet_in sheet.now) k) j).tasks) numbers.old numbers.new }
+fn put_tasks(numbers: &mut [u16; 512], at: usize, sheet: &AcceptedSheet, p: usize)
+    requires some_mode { SomeMode (sheet_of sheet.now) p }
+    requires at_bound { at + 64 ≤ 512 }
+    ensures { (k j : ℕ) → ModeThere (sheet_of sheet.now) k j p → Written at (task_numbers (mode_at (module_at (sheet_of sheet.now) k) j).tasks) numbers.old numbers.new }
 {
-    let n = 4 * place::tasks_at(sheet, p);
-    let mut i = 0;
-    while i < n {
-        numbers[at + i] = place::field(sheet, p + 6 + 10 * (i / 4) + 2 * (i % 4));
-        i += 1;
+    for i in 0..4 * sheet.tasks_at(p) {
+        numbers[at + i] = place::field(sheet.bytes, p + 6 + 10 * (i / 4) + 2 * (i % 4));
     }
 }
 
-// The numbers of the module at p.
-fn task_numbers(sheet: &[u8], p: usize) -> [u16; 512]
-    requires accepted { Accepted sheet.now }
-    requires some_module { SomeModule (sheet_in sheet.now) p }
-    ensures { (k : ℕ) → ModuleThere (sheet_in sheet.now) k p → Row 0 512 (number_at (module_at (sheet_in sheet.now) k)) result }
+// The numbers of the module at p, those of each mode from its start on.
+fn task_numbers(sheet: &AcceptedSheet, p: usize, starts: &[u16; 9]) -> [u16; 512]
+    requires some_module { SomeModule (sheet_of sheet.now) p }
+    requires starts { (k : ℕ) → ModuleThere (sheet_of sheet.now) k p → Row 0 9 (start_of (module_at (sheet_of sheet.now) k)) starts.now }
+    ensures { (k : ℕ) → ModuleThere (sheet_of sheet.now) k p → Row 0 512 (number_at (module_at (sheet_of sheet.now) k)) result }
 {
-    let n = place::modes_at(sheet, p);
-    let mut numbers = [0u16; 512];
-    let mut q = place::mode_from(sheet, p, 0);
-    let mut at = 0;
-    let mut j = 0;
-    while j < n {
-        put_tasks(&mut numbers, at, sheet, q);
-        at += 4 * place::tasks_at(sheet, q);
-        q = place::after_mode(sheet, q);
-        j += 1;
+    let mut numbers = [0; 512];
+    let mut q = sheet.mode_from(p, 0);
+    for start in &starts[..sheet.modes_at(p)] {
+        put_tasks(&mut numbers, *start as usize, sheet, q);
+        q = sheet.after_mode(q);
     }
     numbers
 }
 
 /// The tasks of the module k.
-pub fn module_tasks(sheet: &[u8], k: usize) -> Tasks
-    requires accepted { Accepted sheet.now }
-    requires k_in_bounds { k < length (sheet_in sheet.now).modules }
-    ensures { TasksOf (module_at (sheet_in sheet.now) k) result }
+pub fn module_tasks(sheet: &AcceptedSheet, k: usize) -> Tasks
+    requires { k < length (sheet_of sheet.now).modules }
+    ensures { TasksOf (module_at (sheet_of sheet.now) k) result }
 {
-    let p = place::module_place(sheet, k);
-    let starts = task_starts(sheet, p);
-    let numbers = task_numbers(sheet, p);
+    let p = sheet.module_place(k);
+    let starts = array::from_fn(|j| start_at(sheet, p, j));
+    let numbers = task_numbers(sheet, p, &starts);
     Tasks { starts, numbers }
 }
 
-// The number of the first switch of the mode at p that names the mode t, or how many there are.
-fn switch_to(sheet: &[u8], p: usize, t: usize) -> usize
-    requires accepted { Accepted sheet.now }
-    requires some_mode { SomeMode (sheet_in sheet.now) p }
-    ensures { (k j : ℕ) → ModeThere (sheet_in sheet.now) k j p → result ≡ index_to t (mode_at (module_at (sheet_in sheet.now) k) j).switches }
+// The number of the first switch of the mode at p that names the mode t.
+fn switch_to(sheet: &AcceptedSheet, p: usize, t: usize) -> Option<usize>
+    requires { SomeMode (sheet_of sheet.now) p }
+    ensures { (k j : ℕ) → ModeThere (sheet_of sheet.now) k j p → FirstTo t (mode_at (module_at (sheet_of sheet.now) k) j).switches result }
 {
-    let q = place::switches_from(sheet, p);
-    let n = place::switches_at(sheet, p);
-    let mut i = 0;
-    while i < n {
-        if place::field(sheet, q + 6 * i + 2) as usize == t {
-            return i;
-        }
-        i += 1;
-    }
-    n
+    let q = sheet.switches_from(p);
+    (0..sheet.switches_at(p)).find(|i| place::field(sheet.bytes, q + 6 * *i + 2) as usize == t)
 }
 
 // The period of the switch of the mode at p to the mode t, or 0.
-fn period_to(sheet: &[u8], p: usize, t: usize) -> u16
-    requires accepted { Accepted sheet.now }
-    requires some_mode { SomeMode (sheet_in sheet.now) p }
-    ensures { (k j : ℕ) → ModeThere (sheet_in sheet.now) k j p → result ≡ period_to t (mode_at (module_at (sheet_in sheet.now) k) j).switches }
+fn period_to(sheet: &AcceptedSheet, p: usize, t: usize) -> u16
+    requires { SomeMode (sheet_of sheet.now) p }
+    ensures { (k j : ℕ) → ModeThere (sheet_of sheet.now) k j p → result ≡ period_to t (mode_at (module_at (sheet_of sheet.now) k) j).switches }
 {
-    let q = place::switches_from(sheet, p);
-    let i = switch_to(sheet, p, t);
-    if place::switches_at(sheet, p) <= i {
-        return 0;
+    match switch_to(sheet, p, t) {
+        Some(i) => place::field(sheet.bytes, sheet.switches_from(p) + 6 * i + 4),
+        None => 0,
     }
-    place::field(sheet, q + 6 * i + 4)
 }
 
 // Whether the mode at p lists the mode t.
-fn listed_to(sheet: &[u8], p: usize, t: usize) -> bool
-    requires accepted { Accepted sheet.now }
-    requires some_mode { SomeMode (sheet_in sheet.now) p }
-    ensures { (k j : ℕ) → ModeThere (sheet_in sheet.now) k j p → result ≡ named t (mode_at (module_at (sheet_in sheet.now) k) j).switches }
+fn listed_to(sheet: &AcceptedSheet, p: usize, t: usize) -> bool
+    requires { SomeMode (sheet_of sheet.now) p }
+    ensures { (k j : ℕ) → ModeThere (sheet_of sheet.now) k j p → result ≡ named t (mode_at (module_at (sheet_of sheet.now) k) j).switches }
 {
-    switch_to(sheet, p, t) < place::switches_at(sheet, p)
+    switch_to(sheet, p, t).is_some()
+}
+
+// The place of the mode j of the module at p, if it has so many.
+fn mode_if(sheet: &AcceptedSheet, p: usize, j: usize) -> Option<usize>
+    requires { SomeModule (sheet_of sheet.now) p }
+    ensures { (k : ℕ) → ModuleThere (sheet_of sheet.now) k p → ModeIf (sheet_of sheet.now) k j result }
+{
+    if j < sheet.modes_at(p) {
+        Some(sheet.mode_from(p, j))
+    } else {
+        None
+    }
 }
 
 // The period of the mode j of the module at p, or 0.
-fn period_at(sheet: &[u8], p: usize, j: usize) -> u16
-    requires accepted { Accepted sheet.now }
-    requires some_module { SomeModule (sheet_in sheet.now) p }
-    ensures { (k : ℕ) → ModuleThere (sheet_in sheet.now) k p → result ≡ period_at (module_at (sheet_in sheet.now) k) j }
+fn period_at(sheet: &AcceptedSheet, p: usize, j: usize) -> u16
+    requires { SomeModule (sheet_of sheet.now) p }
+    ensures { (k : ℕ) → ModuleThere (sheet_of sheet.now) k p → result ≡ period_at (module_at (sheet_of sheet.now) k) j }
 {
-    if place::modes_at(sheet, p) <= j {
-        return 0;
+    match mode_if(sheet, p, j) {
+        Some(q) => place::field(sheet.bytes, q + 2),
+        None => 0,
     }
-    let q = place::mode_from(sheet, p, j);
-    place::field(sheet, q + 2)
 }
 
 // The period of the switch of the mode j of the module at p to its mode t, or 0.
-fn switch_period_at(sheet: &[u8], p: usize, j: usize, t: usize) -> u16
-    requires accepted { Accepted sheet.now }
-    requires some_module { SomeModule (sheet_in sheet.now) p }
-    ensures { (k : ℕ) → ModuleThere (sheet_in sheet.now) k p → result ≡ period_to t (mode_at (module_at (sheet_in sheet.now) k) j).switches }
+fn switch_period_at(sheet: &AcceptedSheet, p: usize, j: usize, t: usize) -> u16
+    requires { SomeModule (sheet_of sheet.now) p }
+    ensures { (k : ℕ) → ModuleThere (sheet_of sheet.now) k p → result ≡ period_to t (mode_at (module_at (sheet_of sheet.now) k) j).switches }
 {
-    if place::modes_at(sheet, p) <= j {
-        return 0;
+    match mode_if(sheet, p, j) {
+        Some(q) => period_to(sheet, q, t),
+        None => 0,
     }
-    let q = place::mode_from(sheet, p, j);
-    period_to(sheet, q, t)
 }
 
 // Whether the mode j of the module at p lists its mode t.
-fn switch_listed_at(sheet: &[u8], p: usize, j: usize, t: usize) -> bool
-    requires accepted { Accepted sheet.now }
-    requires some_module { SomeModule (sheet_in sheet.now) p }
-    ensures { (k : ℕ) → ModuleThere (sheet_in sheet.now) k p → result ≡ named t (mode_at (module_at (sheet_in sheet.now) k) j).switches }
+fn switch_listed_at(sheet: &AcceptedSheet, p: usize, j: usize, t: usize) -> bool
+    requires { SomeModule (sheet_of sheet.now) p }
+    ensures { (k : ℕ) → ModuleThere (sheet_of sheet.now) k p → result ≡ named t (mode_at (module_at (sheet_of sheet.now) k) j).switches }
 {
-    if place::modes_at(sheet, p) <= j {
-        return false;
+    match mode_if(sheet, p, j) {
+        Some(q) => listed_to(sheet, q, t),
+        None => false,
     }
-    let q = place::mode_from(sheet, p, j);
-    listed_to(sheet, q, t)
-}
-
-// The row of the module at p.
-fn period_row(sheet: &[u8], p: usize) -> [u16; 8]
-    requires accepted { Accepted sheet.now }
-    requires some_module { SomeModule (sheet_in sheet.now) p }
-    ensures { (k : ℕ) → ModuleThere (sheet_in sheet.now) k p → Row 0 8 (period_at (module_at (sheet_in sheet.now) k)) result }
-{
-    let mut row = [0u16; 8];
-    let mut i = 0;
-    while i < 8 {
-        row[i] = period_at(sheet, p, i);
-        i += 1;
-    }
-    row
-}
-
-// The row of the module at p.
-fn switch_period_row(sheet: &[u8], p: usize) -> [u16; 64]
-    requires accepted { Accepted sheet.now }
-    requires some_module { SomeModule (sheet_in sheet.now) p }
-    ensures { (k : ℕ) → ModuleThere (sheet_in sheet.now) k p → Row 0 64 (switch_period_at (module_at (sheet_in sheet.now) k)) result }
-{
-    let mut row = [0u16; 64];
-    let mut i = 0;
-    while i < 64 {
-        row[i] = switch_period_at(sheet, p, i / 8, i % 8);
-        i += 1;
-    }
-    row
-}
-
-// The row of the module at p.
-fn switch_listed_row(sheet: &[u8], p: usize) -> [bool; 64]
-    requires accepted { Accepted sheet.now }
-    requires some_module { SomeModule (sheet_in sheet.now) p }
-    ensures { (k : ℕ) → ModuleThere (sheet_in sheet.now) k p → Row false 64 (switch_listed_at (module_at (sheet_in sheet.now) k)) result }
-{
-    let mut row = [false; 64];
-    let mut i = 0;
-    while i < 64 {
-        row[i] = switch_listed_at(sheet, p, i / 8, i % 8);
-        i += 1;
-    }
-    row
 }
 
 // The whole row of the module at p.
-fn row_at(sheet: &[u8], p: usize) -> ModuleRow
-    requires accepted { Accepted sheet.now }
-    requires some_module { SomeModule (sheet_in sheet.now) p }
-    ensures { (k : ℕ) → ModuleThere (sheet_in sheet.now) k p → RowOf (module_at (sheet_in sheet.now) k) result }
+fn row_at(sheet: &AcceptedSheet, p: usize) -> ModuleRow
+    requires { SomeModule (sheet_of sheet.now) p }
+    ensures { (k : ℕ) → ModuleThere (sheet_of sheet.now) k p → RowOf (module_at (sheet_of sheet.now) k) result }
 {
-    let periods = period_row(sheet, p);
-    let every = switch_period_row(sheet, p);
-    let listed = switch_listed_row(sheet, p);
     ModuleRow {
-        periods,
-        every,
-        listed,
+        periods: array::from_fn(|j| period_at(sheet, p, j)),
+        every: array::from_fn(|i| switch_period_at(sheet, p, i / 8, i % 8)),
+        listed: array::from_fn(|i| switch_listed_at(sheet, p, i / 8, i % 8)),
     }
 }
 
 /// The row of the module k.
-pub fn module_row(sheet: &[u8], k: usize) -> ModuleRow
-    requires accepted { Accepted sheet.now }
-    requires k_in_bounds { k < length (sheet_in sheet.now).modules }
-    ensures { RowOf (module_at (sheet_in sheet.now) k) result }
+pub fn module_row(sheet: &AcceptedSheet, k: usize) -> ModuleRow
+    requires { k < length (sheet_of sheet.now).modules }
+    ensures { RowOf (module_at (sheet_of sheet.now) k) result }
 {
-    row_at(sheet, place::module_place(sheet, k))
+    row_at(sheet, sheet.module_place(k))
 }
 
 /// The rows of all modules, one for each; past the modules they are blank.
-pub fn module_rows(sheet: &[u8]) -> [ModuleRow; 8]
-    requires { Accepted sheet.now }
-    ensures { RowsOf (sheet_in sheet.now) result }
+pub fn module_rows(sheet: &AcceptedSheet) -> [ModuleRow; 8]
+    ensures { RowsOf (sheet_of sheet.now) result }
 {
-    let periods = [0u16; 8];
-    let every = [0u16; 64];
-    let listed = [false; 64];
     let blank = ModuleRow {
-        periods,
-        every,
-        listed,
+        periods: [0; 8],
+        every: [0; 64],
+        listed: [false; 64],
     };
     let mut rows = [blank; 8];
     let mut p = 4;
-    let mut k = 0;
-    while place::byte(sheet, p) == b'M' {
-        let row = row_at(sheet, p);
-        rows[k] = row;
-        p = place::after_module(sheet, p);
-        k += 1;
+    for row in rows.iter_mut() {
+        if place::byte(sheet.bytes, p) != b'M' {
+            break;
+        }
+        *row = row_at(sheet, p);
+        p = sheet.after_module(p);
     }
     rows
+}
+
+impl<'a> Table<'a> {
+    /// The table of an accepted sheet of so many modules.
+    pub fn new(sheet: AcceptedSheet<'a>, modules: usize) -> Self
+        requires { modules ≡ length (sheet_of sheet).modules }
+        ensures sheet { result.sheet.bytes.now ≡ sheet.entry.bytes.now }
+        ensures modules { result.modules ≡ modules }
+    {
+        let horizon = sheet.horizon();
+        let rows = module_rows(&sheet);
+        Table {
+            sheet,
+            modules,
+            horizon,
+            rows,
+        }
+    }
+
+    /// The row of the module k.
+    pub fn row(&self, k: usize) -> ModuleRow
+        requires { k < length (sheet_of self.now.sheet).modules }
+        ensures { RowOf (module_at (sheet_of self.now.sheet) k) result }
+    {
+        self.rows[k]
+    }
 }

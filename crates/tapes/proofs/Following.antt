@@ -1,8 +1,7 @@
 -- A tape is written tick by tick: the bytes so far, and the tape from the state that is reached, are the tape. Assumes nothing.
-use mathlib.Core.Path.{◌≡◌, refl, sym, ◌∙◌, ap}
+use mathlib.Core.Path.{◌≡◌, sym, ◌∙◌, ap}
 use mathlib.Core.List.{List, ◌∷◌, ◌++◌, append_assoc, append-nil}
 use Prim.Native.Nat.{ℕ, ◌+◌, ◌-◌, ◌≤◌, ◌<◌}
-use native.Mathlib.Nat.{sub-zero}
 use native.Mathlib.Numerals.{add-one}
 use native.Mathlib.Omega.{arith}
 use lib.ListN.{length, take, set, length-set}
@@ -16,12 +15,10 @@ use Rattle.model.specs.Tape.{chosen, tape}
 use Rattle.layers.specs.declared.Shape.{Shape}
 use Rattle.layers.specs.Step.{look}
 use Rattle.layers.specs.Layer.{Told, Tells, Each}
-use Rattle.layers.proofs.Layers.{told_ready}
 use Rattle.following.specs.Follow.{counted}
 use Rattle.following.proofs.Choice.{chosen_next, chosen_listed, chosen_top}
 use Rattle.following.proofs.Ticks.{value_step, step_top}
 use Rattle.following.proofs.Tapes.{tape_tick}
-use Rattle.heads.specs.Heads.{head_of, Filled}
 use Rattle.tapes.specs.declared.State.{State}
 use Rattle.tapes.specs.States.{the, Within}
 use Rattle.tapes.specs.Taped.{Taped}
@@ -40,17 +37,6 @@ so_far_more : (w : List ℕ) (t k : ℕ) (rest rest' whole : List ℕ) → t < l
 so_far_more w t k rest rest' whole l e next = rw (add-one t, take-suc-set w t k l, append_assoc) (rw next at e)
 
 module _ (s : Shape) (numbers : List ℕ) (a b : ℕ) (tells : Tells s numbers) where
-  pub following_start : (heads w : List ℕ) (v : ℕ) → Filled s numbers a b heads → v ≡ head_of heads 0 0 → Following s numbers a b w w (record { mode = 0; time = 0 }) v 0
-  following_start heads w v filled e = record {
-    len = refl;
-    within = let o = tells in
-        let some : 0 < s.modes = omega (arith, o.told.modes, o.rule.least) in
-        record { mode = some; time = ((told_ready o.owner o.rule s numbers o.told).each 0 some).positive };
-    is_value = λ m ok told. e ∙ filled m ok told 0 (omega arith) (omega arith) 0 ok.least;
-    so_far = λ m ok told. rw (sub-zero a, sub-zero b);
-    above = λ i l. refl;
-  }
-
   pub following_end : (w w' : List ℕ) (x : State) (v t : ℕ) → t ≡ b → Following s numbers a b w w' x v t → Taped s numbers a b w w'
   unfolding tape
   following_end w w' x v t e h = record { len = h.len; written = written; above = h.above }

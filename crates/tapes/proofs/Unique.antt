@@ -4,6 +4,7 @@ use mathlib.Core.List.{List}
 use Prim.Native.Nat.{ℕ, ◌<◌}
 use lib.ListN.{take}
 use lib.Seq.{get_or-take}
+use Rattle.std.specs.Prelude.{Option, Some, None}
 use Rattle.model.specs.Sheet.{Module}
 use Rattle.model.specs.WellFormed.{ModuleRule}
 use Rattle.model.specs.Run.{first}
@@ -14,21 +15,19 @@ use Rattle.layers.specs.Step.{look}
 use Rattle.layers.specs.Layer.{Told, Tells}
 use Rattle.layers.proofs.Unique.{memory_unique, each_unique}
 use Rattle.tapes.specs.declared.State.{State}
-use Rattle.tapes.specs.declared.Stepped.{Stepped}
-use Rattle.tapes.specs.declared.Stepped.TheVariants.{To, Closed}
 use Rattle.tapes.specs.States.{the, Answers}
 use Rattle.tapes.specs.Taped.{Taped}
 
-answers_unique : (m : Module) → ModuleRule m → (x : State) (to : ℕ) (r r' : Stepped) → Answers m x to r → Answers m x to r' → r ≡ r'
-answers_unique m ok x to (To t) (To u) (next, e) (next', e') =
+answers_unique : (m : Module) → ModuleRule m → (x : State) (to : ℕ) (r r' : Option State) → Answers m x to r → Answers m x to r' → r ≡ r'
+answers_unique m ok x to (Some t) (Some u) (next, e) (next', e') =
     let same : the t ≡ the u = next_apart m ok (the x) (the t) (the u) next next' (e ∙ sym e') in
-    λ i. To (record { mode = (same i).mode; time = (same i).time })
-answers_unique m ok x to (To t) Closed (next, e) none = absurd (none (the t) next e)
-answers_unique m ok x to Closed (To u) none (next, e) = absurd (none (the u) next e)
-answers_unique m ok x to Closed Closed none none' = refl
+    λ i. Some (record { mode = (same i).mode; time = (same i).time })
+answers_unique m ok x to (Some t) None (next, e) none = absurd (none (the t) next e)
+answers_unique m ok x to None (Some u) none (next, e) = absurd (none (the u) next e)
+answers_unique m ok x to None None none none' = refl
 
 -- State::step
-pub step_unique : {s : Shape} {numbers : List ℕ} → Tells s numbers → (x : State) (to : ℕ) (r r' : Stepped)
+pub step_unique : {s : Shape} {numbers : List ℕ} → Tells s numbers → (x : State) (to : ℕ) (r r' : Option State)
     → ((m : Module) (numbers : List ℕ) → ModuleRule m → Told m s numbers → Answers m x to r) → ((m : Module) (numbers : List ℕ) → ModuleRule m → Told m s numbers → Answers m x to r') → r ≡ r'
 step_unique {s} {numbers} t x to r r' g h = answers_unique t.owner t.rule x to r r' (g t.owner numbers t.rule t.told) (h t.owner numbers t.rule t.told)
 

@@ -1,7 +1,6 @@
 -- The value of a state, by a walk along its stay. Assumes nothing.
 use mathlib.Core.Path.{◌≡◌, sym, ◌∙◌}
 use Prim.Native.Nat.{ℕ, suc, ◌+◌, ◌-◌, ◌≤◌, ◌<◌, max, min}
-use native.Mathlib.Nat.{add-zero}
 use native.Mathlib.Decide.{dec_lt}
 use native.Mathlib.Omega.{arith}
 use lib.Dec.{ltb}
@@ -22,9 +21,6 @@ abbrev pub stay_value : Module → (a b t k d i : ℕ) → ℕ
 stay_value m a b t k d i = when (ltb (d + i) (mode_at m k).period) (value m (a - (t + i)) (b - (t + i)) (at k (d + i)))
 
 module _ (m : Module) (ok : ModuleRule m) (a b t k d : ℕ) where
-  pub stay_first : d < (mode_at m k).period → stay_value m a b t k d 0 ≡ value m (a - t) (b - t) (at k d)
-  stay_first l = rw (add-zero d, add-zero t, lt-ltb _ _ l)
-
   -- at the end of the stay and at the end of the interval that is nothing
   pub stay_over : (i : ℕ) → i ≡ min ((mode_at m k).period - d) (b - t) → d < (mode_at m k).period → stay_value m a b t k d i ≡ 0
   stay_over i e l = pick (dec_lt (d + i) (mode_at m k).period)

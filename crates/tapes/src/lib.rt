@@ -1,7 +1,7 @@
 // The writer of one module's tape: from its first tick on, by the heads of the modes at each tick.
 #![tactic(auto)]
 
-ghost use Rattle.std.specs.Prelude.{◌≡◌, true, ◌&&◌, List, ℕ, ◌+◌, ◌-◌, ◌%◌, ◌<◌, ◌≤◌, max, eqb, length};
+ghost use Rattle.std.specs.Prelude.{◌≡◌, true, ◌&&◌, List, ℕ, ◌+◌, ◌-◌, ◌%◌, ◌<◌, ◌≤◌, max, eqb, length, unwrap_or, IfSome};
 ghost use Rattle.model.specs.Lists.{when, max_of, max_below};
 ghost use Rattle.model.specs.Limits.{work_numbers};
 ghost use Rattle.model.specs.Sheet.{Module};
@@ -11,12 +11,12 @@ ghost use Rattle.model.specs.Demand.{value, nexts};
 ghost use Rattle.model.specs.Tape.{chosen};
 ghost use Rattle.layers.specs.Layer.{Told, Tells, Each};
 ghost use Rattle.following.specs.Follow as Follow;
-ghost use Rattle.following.specs.Follow.{opens, attains};
+ghost use Rattle.following.specs.Follow.{opens};
 ghost use Rattle.heads.specs.Heads.{HeadsAt, EachAt, Filled, Kept};
-ghost use Rattle.tapes.specs.States.{the, Within, Answers};
+ghost use Rattle.tapes.specs.States.{the, Within, Answers, Attains};
 ghost use Rattle.tapes.specs.Taped.{Taped};
 
-use layers::{Shape, smaller};
+use layers::Shape;
 
 // A state of a module: the mode and the mode time.
 #[derive(Clone, Copy)]
@@ -25,44 +25,30 @@ pub struct State {
     pub time: usize,
 }
 
-// What a step to a mode answers: the state there, or that the mode is not open.
-#[derive(Clone, Copy)]
-pub enum Stepped {
-    To(State),
-    Closed,
-}
-
 // A switch, where there is one, is open at the times that its period divides.
 fn is_open(listed: bool, every: u16, time: usize) -> bool
     requires { listed ≡ true → 1 ≤ every }
     ensures { result ≡ (listed && eqb (time % every) 0) }
 {
-    if listed {
-        let step = every as usize;
-        return time % step == 0;
-    }
-    false
+    listed && time % every as usize == 0
 }
 
 impl State {
-    // One tick on, to the mode asked for: on in the stay or, at its end, from its start again; another mode where a switch to it is open.
-    pub fn step(self, shape: Shape, to: usize) -> Stepped
+    // One tick on, to the mode asked for: on in the stay or, at its end, from its start again; another mode where a switch to it is open, else None.
+    pub fn step(self, shape: Shape, to: usize) -> Option<State>
         requires { ((numbers : List ℕ) × Tells shape numbers) × (Within shape self) × (to < shape.modes) }
         ensures { (m : Module) (numbers : List ℕ) → ModuleRule m → Told m shape numbers → Answers m self to result }
     {
-        let k = self.mode;
         let d = self.time + 1;
-        if to != k {
-            let at = 8 * k + to;
-            if is_open(shape.listed[at], shape.every[at], d) {
-                return Stepped::To(State { mode: to, time: 0 });
-            }
-            return Stepped::Closed;
+        if to != self.mode {
+            let at = 8 * self.mode + to;
+            return is_open(shape.listed[at], shape.every[at], d).then_some(State {
+                mode: to,
+                time: 0,
+            });
         }
-        if d < shape.periods[k] as usize {
-            return Stepped::To(State { mode: k, time: d });
-        }
-        Stepped::To(State { mode: k, time: 0 })
+        let time = if d < shape.periods[to] as usize { d } else { 0 };
+        Some(State { mode: to, time })
     }
 }
 
@@ -71,10 +57,7 @@ fn begins(s: State, shape: Shape, j: usize) -> bool
     requires { ((numbers : List ℕ) × Tells shape numbers) × (Within shape s) × (j < shape.modes) }
     ensures { (m : Module) (numbers : List ℕ) → ModuleRule m → Told m shape numbers → result ≡ opens m (the s) j }
 {
-    match s.step(shape, j) {
-        Stepped::To(n) => n.time == 0,
-        Stepped::Closed => false,
-    }
+    s.step(shape, j).is_some_and(|n| n.time == 0)
 }
 
 // The head of mode j at tick t, where that mode can be begun one tick after s, which is at tick t - 1.
@@ -83,9 +66,10 @@ fn offer(work: &[u32], t: usize, s: State, shape: Shape, j: usize) -> u32
     ensures { (result < 65536) × (EachAt shape t work.now (λ m f. result ≡ when (opens m (the s) j) (f (at j 0)))) }
 {
     if begins(s, shape, j) {
-        return heads::head(work, t, j);
+        heads::head(work, t, j)
+    } else {
+        0
     }
-    0
 }
 
 // The largest of these heads.
@@ -93,12 +77,9 @@ fn offers(work: &[u32], t: usize, s: State, shape: Shape) -> u32
     requires { ((numbers : List ℕ) × Tells shape numbers) × (Within shape s) × (t ≤ 2000) × (work_numbers ≤ length work.now) }
     ensures { (result < 65536) × (EachAt shape t work.now (λ m f. result ≡ max_below (λ j. when (opens m (the s) j) (f (at j 0))) (length m.modes))) }
 {
-    let n = shape.modes;
     let mut top = 0;
-    let mut j = 0;
-    while j < n {
-        top = layers::larger(offer(work, t, s, shape, j), top);
-        j += 1;
+    for j in 0..shape.modes {
+        top = offer(work, t, s, shape, j).max(top);
     }
     top
 }
@@ -106,28 +87,17 @@ fn offers(work: &[u32], t: usize, s: State, shape: Shape) -> u32
 // Whether mode j can be begun one tick after s and its head is top.
 fn attains_at(work: &[u32], t: usize, s: State, top: u32, shape: Shape, j: usize) -> bool
     requires { ((numbers : List ℕ) × Tells shape numbers) × (Within shape s) × (j < shape.modes) × (t ≤ 2000) × (work_numbers ≤ length work.now) }
-    ensures { EachAt shape t work.now (λ m f. result ≡ attains m f (the s) top j) }
+    ensures { Attains shape t work.now s top result j }
 {
-    if begins(s, shape, j) {
-        return heads::head(work, t, j) == top;
-    }
-    false
+    begins(s, shape, j) && heads::head(work, t, j) == top
 }
 
-// The lowest such mode, or the number of modes.
-fn lowest_head(work: &[u32], t: usize, s: State, top: u32, shape: Shape) -> usize
+// The lowest such mode.
+fn lowest_head(work: &[u32], t: usize, s: State, top: u32, shape: Shape) -> Option<usize>
     requires { ((numbers : List ℕ) × Tells shape numbers) × (Within shape s) × (t ≤ 2000) × (work_numbers ≤ length work.now) }
-    ensures { (result ≤ shape.modes) × (EachAt shape t work.now (λ m f. result ≡ Follow.head m f (the s) top)) }
+    ensures { (IfSome result (λ j. j < shape.modes)) × (EachAt shape t work.now (λ m f. unwrap_or result shape.modes ≡ Follow.head m f (the s) top)) }
 {
-    let n = shape.modes;
-    let mut j = 0;
-    while j < n {
-        if attains_at(work, t, s, top, shape, j) {
-            return j;
-        }
-        j += 1;
-    }
-    n
+    (0..shape.modes).find(|j| attains_at(work, t, s, top, shape, *j))
 }
 
 // One tick of a walk along a stay: s gains, and goes on for v or to the best head at tick t, the next.
@@ -135,7 +105,7 @@ fn turn(work: &[u32], t: usize, s: State, v: u32, l: usize, shape: Shape, number
     requires { (Tells shape numbers.now) × (Within shape s) × (t ≤ 2000) × (work_numbers ≤ length work.now) × (v < 65536) }
     ensures { (m : Module) (f : Moment → ℕ) → ModuleRule m → Told m shape numbers.now → HeadsAt m f t work.now → result ≡ gain m (the s) 0 l + max v (max_below (λ j. when (opens m (the s) j) (f (at j 0))) (length m.modes)) }
 {
-    let best = layers::larger(v, offers(work, t, s, shape));
+    let best = v.max(offers(work, t, s, shape));
     heads::gain_at(s.mode, s.time, l, shape, numbers) + best
 }
 
@@ -152,26 +122,15 @@ fn value_at(
     requires { (Tells shape numbers.now) × (Within shape s) × (t ≤ b) × (b ≤ 2000) × (work_numbers ≤ length work.now) × (Filled shape numbers.now a b work.now) }
     ensures { Each shape numbers.now (λ m. result ≡ value m (a - t) (b - t) (the s)) }
 {
-    let k = s.mode;
-    let d = s.time;
-    let p = shape.periods[k] as usize;
-    let mut i = smaller(p - d, b - t);
+    let rest = shape.periods[s.mode] as usize - s.time;
     let mut v = 0;
-    while 0 < i {
-        i -= 1;
+    for i in (0..rest.min(b - t)).rev() {
         let l = heads::counted_at(a, b, t + i);
-        v = turn(
-            work,
-            t + i + 1,
-            State {
-                mode: k,
-                time: d + i,
-            },
-            v,
-            l,
-            shape,
-            numbers,
-        );
+        let state = State {
+            mode: s.mode,
+            time: s.time + i,
+        };
+        v = turn(work, t + i + 1, state, v, l, shape, numbers);
     }
     v
 }
@@ -194,16 +153,14 @@ fn next_mode(
 {
     let k = s.mode;
     let d = s.time + 1;
-    let n = shape.modes;
-    let h = lowest_head(work, t, s, top, shape);
+    let Some(h) = lowest_head(work, t, s, top, shape) else {
+        return k;
+    };
     if h <= k {
         return h;
     }
     if shape.periods[k] as usize <= d {
         return h;
-    }
-    if h == n {
-        return k;
     }
     if value_at(work, a, b, t, State { mode: k, time: d }, shape, numbers) == top {
         return k;
@@ -216,10 +173,7 @@ fn go(s: State, shape: Shape, to: usize) -> State
     requires { ((numbers : List ℕ) × Tells shape numbers) × (Within shape s) × (to < shape.modes) }
     ensures { (m : Module) (numbers : List ℕ) → ModuleRule m → Told m shape numbers → (t : Moment) → Next m (the s) t → t.mode ≡ to → the result ≡ t }
 {
-    match s.step(shape, to) {
-        Stepped::To(n) => n,
-        Stepped::Closed => s,
-    }
+    s.step(shape, to).unwrap_or(s)
 }
 
 // The tape, tick by tick: the mode of the state, and on to the next state on the tape, which has what the gain leaves of the value.
@@ -229,12 +183,10 @@ fn follow(tape: &mut [u8], a: usize, b: usize, work: &[u32], shape: Shape, numbe
 {
     let mut s = State { mode: 0, time: 0 };
     let mut v = heads::head(work, 0, 0);
-    let mut t = 0;
-    while t < b {
+    for t in 0..b {
         tape[t] = s.mode as u8;
         v -= heads::gain_at(s.mode, s.time, heads::counted_at(a, b, t), shape, numbers);
-        t += 1;
-        let to = next_mode(work, a, b, t, s, v, shape, numbers);
+        let to = next_mode(work, a, b, t + 1, s, v, shape, numbers);
         s = go(s, shape, to);
     }
 }

@@ -1,21 +1,17 @@
--- The figures of one length are added to its row; and one length after another, those of the module to all rows. Assumes nothing.
-use mathlib.Core.Path.{◌≡◌, refl, sym, ap, ◌∙◌}
-use mathlib.Core.Bool.{true, false}
+-- One length after another the figures of the module are added to all rows. Assumes nothing.
+use mathlib.Core.Path.{◌≡◌, refl, sym, ◌∙◌}
+use mathlib.Core.Bool.{true}
 use mathlib.Core.List.{List}
 use Prim.Native.Nat.{ℕ, pred, ◌+◌, ◌-◌, ◌*◌, ◌^◌, ◌≤◌, ◌<◌}
 use native.Mathlib.Nat.{add-mul, mul-le-mul_right}
 use native.Mathlib.Decide.{dec_le}
 use native.Mathlib.Omega.{arith}
 use lib.ListN.{length}
-use borrow.Author.Tests.{lt-ltb, le-ltb}
-use borrow.Rule.Slice.PartMut.{put_mid, mid_of}
 use Rattle.model.specs.Run.{first}
 use Rattle.model.specs.Demand.{value}
 use Rattle.layers.specs.declared.Shape.{Shape}
 use Rattle.layers.specs.Step.{look}
 use Rattle.layers.specs.Layer.{Tells, Each}
-use Rattle.layers.proofs.Parts.{part_length, part_look, back_here}
-use Rattle.figures.specs.Figures.{Added}
 use Rattle.figures.proofs.Offered.{not_both}
 use Rattle.figures.proofs.Tiles.{figures_bound}
 use Rattle.memory.specs.Map.{layer_from, cells_from}
@@ -23,45 +19,7 @@ use Rattle.cells.specs.Cells.{in_question, Longest, rows, cell_at, Tile}
 use Rattle.tiles.specs.Tiles.{Within, Progressed, RowFits, RowAdded, CellsFit, ModuleAdded}
 use Rattle.cells.proofs.Rows.{rows_more, rows_grow}
 use Rattle.tiles.proofs.Rows.{question_same, rows_same, cell_same, cell_before}
-use Rattle.tiles.proofs.Parts.{within_none, within_wider, within_then, put_within}
-
--- One row.
-
-module _ (fig w : List ℕ) (row : ℕ) where
-  pub row_none : (L : ℕ) → look w L ≤ L → RowAdded fig L row row w w
-  row_none L h = let out : in_question w L ≡ false = le-ltb L (look w L) h in record { next = rw out (omega arith); cells = λ q. absurd (not_both q out); within = within_none _ _ w }
-
-  abbrev from : ℕ
-  from = cells_from + row * length fig
-
-  module _ (fits : RowFits fig row w) where
-    room : from + length fig ≤ length w
-    room = omega arith
-
-    pub row_low : (i : ℕ) → i < length fig → look (mid_of from (from + length fig - from) w) i + look fig i < 2 ^ 32
-    row_low i h =
-        let place : from + i ≡ cells_from + (row * length fig + i) = omega arith in
-        rw (part_look w from (length fig) room i h, place) (fits.low i h)
-
-    pub row_some : (L : ℕ) → L < look w L → (ys : List ℕ) → Added (length fig) fig (mid_of from (from + length fig - from) w) ys
-        → RowAdded fig L row (row + 1) w (put_mid from (from + length fig - from) w ys)
-    row_some L h ys added = record {
-      next = rw (lt-ltb L (look w L) h);
-      cells = λ q. cells;
-      within = within_wider (put_within from (length fig) w ys room size) _ _ (omega arith) (omega (arith, add-mul row 1 (length fig)));
-    }
-      where
-        size : length ys ≡ length fig
-        size = added.len ∙ part_length w from (length fig) room
-
-        w' : List ℕ
-        w' = put_mid from (from + length fig - from) w ys
-
-        cells : (i : ℕ) → i < length fig → look w' (cells_from + (row * length fig + i)) ≡ look w (cells_from + (row * length fig + i)) + look fig i
-        cells i l =
-            let place : cells_from + (row * length fig + i) ≡ from + i = omega arith in
-            rw place
-            (back_here w from (length fig) room ys size i l ∙ added.each i l ∙ ap (λ (v : ℕ). v + look fig i) (part_look w from (length fig) room i l))
+use Rattle.tiles.proofs.Parts.{within_none, within_wider, within_then}
 
 -- One length after another.
 

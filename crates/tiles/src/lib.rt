@@ -16,12 +16,8 @@ pub fn begin(work: &mut [u32], last: usize, shape: Shape)
     ensures { Begun shape last work.old work.new }
 {
     marks::mark_entries(&mut work[MARKS_FROM..CELLS_FROM], last, shape);
-    let n = shape.modes;
-    let periods = shape.periods;
-    layers::clear(
-        &mut work[LAYER_FROM..MARKS_FROM],
-        layers::states(periods, n),
-    );
+    let states = layers::states(shape.periods, shape.modes);
+    layers::clear(&mut work[LAYER_FROM..MARKS_FROM], states);
 }
 
 // The layer and the figures for l ticks become those for l + 1.
@@ -75,11 +71,9 @@ fn add_lengths(
     ensures { ModuleAdded shape numbers.now lo (length fig.old) (pred (lo + length fig.old)) work.old work.new }
 {
     let mut row = 0;
-    let mut l = 0;
-    while l < stop {
+    for l in 0..stop {
         next_figures(work, fig, lo, l, shape, numbers);
         row = add_row(work, fig, l + 1, row);
-        l += 1;
     }
 }
 

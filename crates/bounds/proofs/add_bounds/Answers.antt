@@ -4,13 +4,10 @@ use Rattle.bounds.proofs.Adding.{fits_begun, bounds_begun}
 use Rattle.bounds.proofs.Bounding.{progress_start}
 use Rattle.bounds.proofs.add_bounds.Goals as goal
 
-pub begin-requires : goal.begin-requires
-begin-requires c = let p = c.requires in ((_, p.5), omega arith, p.1)
-
 pub add_lengths-requires : goal.add_lengths-requires
 add_lengths-requires c = let p = c.requires in
     let begun = c.begin.ensures in
-    (p.0, omega (arith, begun.within.len), p.3, fits_begun _ _ _ begun.within p.0 p.4, p.5, progress_start _ _ _ _ _ _ _ p.1 (omega arith) begun)
+    (p.0, omega (arith, begun.within.len), fits_begun _ _ _ begun.within p.0 p.2, p.3, progress_start _ _ _ _ _ _ _ p.1 (omega arith) begun)
 
 pub returns : goal.returns
 returns c = bounds_begun _ _ _ c.begin.ensures.within c.requires.0 _ _ _ _ _ c.add_lengths.ensures

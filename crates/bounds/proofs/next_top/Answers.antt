@@ -5,13 +5,10 @@ use Rattle.tiles.proofs.Steps.{next_layer}
 use Rattle.bounds.proofs.Bounding.{progressed}
 use Rattle.bounds.proofs.next_top.Goals as goal
 
-pub advance-requires : goal.advance-requires
-advance-requires c = let p = c.requires in (p.0, is_layer _ _ _ _ p.3 (λ m ok told. (p.4 m ok told).layer))
-
 pub top_module-requires : goal.top_module-requires
 top_module-requires c = let p = c.requires in
-    let layer = next_layer _ _ _ c.args.work.now _ p.1 c.advance.ensures (λ m ok told. (p.4 m ok told).layer) in
-    (omega arith, p.2, omega arith, is_layer _ _ _ _ p.3 layer)
+    let layer = next_layer _ _ _ c.args.work.now _ p.1 c.advance.ensures (λ m ok told. (p.3 m ok told).layer) in
+    (omega arith, omega arith, is_layer _ _ _ _ p.2 layer)
 
 pub returns : goal.returns
-returns c = progressed _ _ _ c.args.work.now _ c.requires.1 c.advance.ensures _ _ _ _ c.requires.4 c.top_module.ensures
+returns c = progressed _ _ _ c.args.work.now _ c.requires.1 c.advance.ensures _ _ _ _ c.requires.3 c.top_module.ensures

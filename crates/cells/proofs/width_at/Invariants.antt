@@ -1,9 +1,5 @@
-use Prim.Native.Nat.{◌-◌}
 use Rattle.cells.proofs.Widths.{Widened}
 use Rattle.cells.proofs.width_at.Given as goal
 
 abbrev pub invariant-loop-width : goal.invariant-loop-width
 invariant-loop-width l = Widened l.work l.lo l.horizon l.width l.count
-
-abbrev pub decreases-loop-width : goal.decreases-loop-width
-decreases-loop-width l = 512 - l.width

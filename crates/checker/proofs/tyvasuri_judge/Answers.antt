@@ -6,16 +6,9 @@ use Rattle.checker.proofs.Bounds.{judged_refused, modes_most}
 use Rattle.checker.proofs.tyvasuri_judge.Goals as goal
 
 pub refused-requires : goal.refused-requires
-refused-requires c = (judged_refused _ _ _ (refused_told _ c.in-Refused.is c.judge-judged.ensures)).placed
+refused-requires c = (judged_refused _ _ _ (refused_told _ _ c.in-Err.ensures)).placed
 
 pub accepted-requires : goal.accepted-requires
-accepted-requires c = let a = accepted_told _ c.in-Accepted.is c.judge-judged.ensures in
+accepted-requires c = let a = accepted_told _ _ c.in-Ok.ensures in
     let ok = accepted_well_formed _ _ a.is_accepted in
     omega (arith, modes_most _ ok)
-
-pub returns-in-Refused : goal.returns-in-Refused
-returns-in-Refused c = rw (refused_told _ c.in-Refused.is c.judge-judged.ensures) c.refused.ensures
-
-pub returns-in-Accepted : goal.returns-in-Accepted
-returns-in-Accepted c = let a = accepted_told _ c.in-Accepted.is c.judge-judged.ensures in
-    rw a.is_accepted (omega (arith, c.accepted.ensures, a))

@@ -4,4 +4,4 @@ use Rattle.emptying.proofs.Telling.{told_emptied}
 use Rattle.emptying.proofs.empty_modes.Goals as goal
 
 pub returns : goal.returns
-returns c = told_emptied c.args.shape _ c.args.numbers.now _ c.args.kept refl refl c.kept_periods-periods.ensures c.kept_switches-listed.ensures c.kept_tasks-starts.ensures
+returns c = told_emptied c.args.shape _ c.args.numbers.now _ c.args.kept refl refl c.kept_periods.ensures c.kept_switches.ensures c.kept_tasks.ensures

@@ -1,22 +1,26 @@
--- The sheet's fault goes before the memory; past both the terms are met, and the judge has told the modules and the horizon. Assumes nothing.
+-- The sheet's fault goes before the memory; past both the terms are met, and the judge has told the counts and the horizon. Assumes nothing.
+use mathlib.Core.Path.{refl, sym, ◌∙◌}
 use native.Mathlib.Omega.{arith}
+use Rattle.std.proofs.lemmas.Result.{err_from_is_err_and}
 use Rattle.query.specs.Query.{exact_terms}
-use Rattle.query.proofs.Meeting.{fault_refused}
+use Rattle.query.proofs.Meeting.{fault_refused, memory_refused}
 use Rattle.format.proofs.RoundTrip.{accepted_well_formed}
 use Rattle.judge.proofs.JudgedLaws.{accepted_told, refused_told}
-use Rattle.exact.proofs.Giving.{asks_tested}
+use Rattle.exact.proofs.Giving.{enough_is}
 use Rattle.exact.proofs.exact_asked.Goals as goal
 
-pub tested-requires : goal.tested-requires
-tested-requires c = let a = c.args in
-    let told = accepted_told a.sheet.now c.in-Accepted.is c.judge-judged.ensures in
+pub returns-in_err-judged : goal.returns-in_err-judged
+returns-in_err-judged c = let a = c.args in
+    let p = err_from_is_err_and c.from_residual.result c.from_residual.ensures.1 in
+    rw (p.1, p.2) (fault_refused (exact_terms a.work a.tape) a.sheet.now (refused_told _ a.sheet.now c.in_err-judged.ensures))
+
+pub is_enough-requires : goal.is_enough-requires
+is_enough-requires c = let a = c.args in
+    let told = accepted_told _ a.sheet.now c.in_ok-judged.ensures in
     let ok = accepted_well_formed _ _ told.is_accepted in
     (omega (arith, told.modules_are, ok.modules_most), omega (arith, told.horizon_is, ok.horizon_most))
 
-pub returns-in-Refused : goal.returns-in-Refused
-returns-in-Refused c = let a = c.args in
-    fault_refused (exact_terms a.work a.tape) a.sheet.now (refused_told a.sheet.now c.in-Refused.is c.judge-judged.ensures)
-
-pub returns-in-Accepted : goal.returns-in-Accepted
-returns-in-Accepted c = let a = c.args in
-    asks_tested a.sheet.now _ _ _ _ _ a.work a.tape (accepted_told a.sheet.now c.in-Accepted.is c.judge-judged.ensures) c.tested.ensures
+pub returns-then-not-is_enough : goal.returns-then-not-is_enough
+returns-then-not-is_enough c = let a = c.args in
+    let told = accepted_told _ a.sheet.now c.in_ok-judged.ensures in
+    rw c.at.ensures (memory_refused (exact_terms a.work a.tape) a.sheet.now told.is_accepted refl (sym (c.is_enough.ensures ∙ enough_is a.work a.tape told) ∙ c.if-not-is_enough.true))

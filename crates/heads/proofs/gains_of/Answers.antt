@@ -1,25 +1,23 @@
--- `gains_of` is the sum of what the tasks gain: so far of those below i. Assumes nothing.
-use mathlib.Core.Path.{◌≡◌, refl, ◌∙◌, ap}
-use Prim.Native.Nat.{◌/◌}
-use native.Mathlib.Omega.{arith}
-use native.Mathlib.Numerals.{add-one}
-use lib.ListN.{length}
-use Rattle.layers.specs.Step.{sum_below, due}
+-- `gains_of` is the sum of what the tasks gain, each a number of 16 bits. Assumes nothing.
+use Rattle.std.proofs.Common.{refl, ℕ, ◌/◌, ◌∙◌, length, rules, tests, arith}
+use Rattle.std.proofs.lemmas.Iterator.{YieldsList-from_range, YieldsList-from_map}
+use Rattle.std.proofs.lemmas.Iterator.Consumers.{YieldsList-at, sum_from_yields_List, fits_from_yields_list}
+use Rattle.layers.specs.Step.{due}
+use Rattle.heads.proofs.Gains.{sum_range, gains_few}
 use Rattle.heads.proofs.gains_of.Goals as goal
 
-pub loop-i-init : goal.loop-i-init
-loop-i-init c = (omega arith, refl, omega arith)
-
-pub gain_of-sum-requires : goal.gain_of-sum-requires
-gain_of-sum-requires c = (omega arith, c.requires.0 c.loop-i.i (omega arith))
-
-pub overflow_add-sum : goal.overflow_add-sum
-overflow_add-sum c = let one = c.gain_of-sum.ensures in let so_far = c.loop-i.invariant in omega (arith, one.1)
-
-pub loop-i-preserved : goal.loop-i-preserved
-loop-i-preserved c = let i = c.loop-i.i in
-    let one = c.gain_of-sum.ensures in
-    (omega arith, rw (add-one i) (omega (arith, one.0)), omega (arith, one.1))
+pub sum-requires-clause-fits : goal.sum-requires-clause-fits
+sum-requires-clause-fits c =
+    let tasks = c.args.tasks.now in
+    let n : ℕ = length tasks / 4 in
+    fits_from_yields_list c.map.result _
+    (YieldsList-from_map _ (due tasks c.args.l c.args.d) (YieldsList-at c.map.ensures.source (YieldsList-from_range 0 n n refl (omega arith))) c.map.ensures.closure (λ x r q k. search (rules, tests)))
+    (omega (arith, sum_range (due tasks c.args.l c.args.d) n, gains_few tasks c.args.l c.args.d n (λ x. omega (arith, c.type_inv.tasks x))))
 
 pub returns : goal.returns
-returns c = let e : c.loop-i.i ≡ length c.args.tasks.now / 4 = omega arith in c.loop-i.invariant.1 ∙ ap (sum_below (due c.args.tasks.now c.args.l c.args.d)) e
+returns c =
+    let tasks = c.args.tasks.now in
+    let n : ℕ = length tasks / 4 in
+    sum_from_yields_List c.map.result _ c.sum.ensures.ran
+    (YieldsList-from_map _ (due tasks c.args.l c.args.d) (YieldsList-at c.map.ensures.source (YieldsList-from_range 0 n n refl (omega arith))) c.map.ensures.closure (λ x r q k. search (rules, tests)))
+    ∙ sum_range (due tasks c.args.l c.args.d) n

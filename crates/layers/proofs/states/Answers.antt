@@ -1,25 +1,27 @@
--- `states` is the sum of the first n periods: so far of those below k. Assumes nothing.
-use mathlib.Core.Path.{◌≡◌, refl, ap, ◌∙◌}
-use native.Mathlib.Numerals.{add-one}
-use native.Mathlib.Omega.{arith}
-use mir.Syntax.{w16}
-use mir.Val.{Fits}
-use borrow.Author.Rules.{rules}
+-- `states` is what the iterator adds up of the first n periods. Assumes nothing.
+use Rattle.std.proofs.Common.{rules, tests, ◌≡◌, ◌∙◌, ◌≤◌, ◌*◌, ℕ, arith, take, sum_by, Fits, w16}
+use Rattle.std.proofs.lemmas.Iterator.{YieldsList-from_slice, YieldsList-from_map}
+use Rattle.std.proofs.lemmas.Iterator.Consumers.{sum_by_from_yields_List, fits_by_from_yields_list}
 use Rattle.layers.specs.Step.{look, total}
+use Rattle.layers.proofs.Sums.{sum_front, sum_most}
+use Rattle.layers.proofs.states.Goals.{After-map}
 use Rattle.layers.proofs.states.Goals as goal
 
-pub loop-k-init : goal.loop-k-init
-loop-k-init c = (omega arith, refl, omega arith)
+-- the sum of the first periods is the total, and each period is below 2^16
+sums : (c : After-map) → (sum_by (λ x. x) (take c.args.n c.args.periods) ≡ total c.args.periods c.args.n) × (total c.args.periods c.args.n ≤ 65535 * c.args.n)
+sums c =
+    let c = c in
+    let low : (k : ℕ) → Fits w16 (look c.args.periods k) = λ k. search rules in
+    (sum_front c.args.periods c.args.n (omega arith), sum_most (look c.args.periods) 65535 c.args.n (λ k h. omega (arith, (low k).fits)))
 
-pub overflow_add-sum : goal.overflow_add-sum
-overflow_add-sum c = let f : Fits w16 (look c.args.periods c.loop-k.k) = search rules in omega (arith, f.fits)
-
-pub loop-k-preserved : goal.loop-k-preserved
-loop-k-preserved c = let l = c.loop-k in
-    let f : Fits w16 (look c.args.periods l.k) = search rules in
-    (omega arith, rw (add-one l.k) (omega arith), omega (arith, f.fits))
+pub sum-requires-clause-fits : goal.sum-requires-clause-fits
+sum-requires-clause-fits c =
+    let first = take c.args.n c.args.periods in
+    fits_by_from_yields_list (λ x. x) first c.map.result _ (YieldsList-from_map _ (λ x. x) (YieldsList-from_slice first cc) c.map.ensures.closure (λ x b q k. search (rules, tests))) (omega (arith, sums (goal.at.sum-requires-clause-fits c).After-map))
 
 pub returns : goal.returns
-returns c = let l = c.loop-k in
-    let e : l.k ≡ c.args.n = omega arith in
-    (l.invariant.1 ∙ ap (total c.args.periods) e, omega arith)
+returns c =
+    let first = take c.args.n c.args.periods in
+    let sum = sum_by_from_yields_List (λ x. x) first c.map.result _ c.sum.ensures.ran (YieldsList-from_map _ (λ x. x) (YieldsList-from_slice first cc) c.map.ensures.closure (λ x b q k. search (rules, tests))) in
+    let all = sums (goal.at.returns c).After-map in
+    (sum ∙ all.0, omega arith)

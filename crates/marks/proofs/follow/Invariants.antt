@@ -1,9 +1,5 @@
 use Rattle.marks.specs.Marking.{Kept, Followed}
-use Prim.Native.Nat.{◌-◌}
 use Rattle.marks.proofs.follow.Given as goal
 
 abbrev pub invariant-loop-t : goal.invariant-loop-t
 invariant-loop-t l = Kept l.initial.bits l.bits × Followed l.shape l.horizon l.t l.bits
-
-abbrev pub decreases-loop-t : goal.decreases-loop-t
-decreases-loop-t l = l.horizon - l.t

@@ -1,18 +1,15 @@
--- `is_any_marked` looks at the modes one after another: none below k is marked. Assumes nothing.
-use Rattle.marks.proofs.Markings.{unmarked_more}
-use native.Mathlib.Omega.{arith}
-use mathlib.Core.Bool.{true≢false}
-use mathlib.Core.Path.{sym, ◌∙◌}
+-- `is_any_marked` answers no only where it has looked at each mode. Assumes nothing.
+use Rattle.std.proofs.Common.{◌≡◌, refl, false, true, rules, tests, arith}
+use Rattle.std.proofs.lemmas.Iterator.{cases_from_any, YieldsList-from_range}
+use Rattle.std.proofs.lemmas.List.FromFn.{length-range_with_len, get_or-range_with_len}
+use native.Mathlib.Nat.{zero-add}
+use Rattle.marks.specs.Marks.{marked}
 use Rattle.marks.proofs.is_any_marked.Goals as goal
 
-pub loop-k-init : goal.loop-k-init
-loop-k-init c = (omega arith, λ j h. absurd (omega arith))
-
-pub returns-then-is_marked : goal.returns-then-is_marked
-returns-then-is_marked c = λ e. absurd (true≢false e)
-
-pub loop-k-preserved : goal.loop-k-preserved
-loop-k-preserved c = (omega arith, unmarked_more c.args.bits.now c.args.t c.loop-k.k (sym c.is_marked.ensures ∙ c.if-is_marked.false) c.loop-k.invariant.1)
-
 pub returns : goal.returns
-returns c = λ e j h. c.loop-k.invariant.1 j (omega arith)
+returns c = λ e k h.
+    let bits = c.args.bits.now in
+    let found = cases_from_any _ _ c.any.result (λ j. marked bits j c.args.t ≡ true) (λ j. marked bits j c.args.t ≡ false) c.any.ensures.ran
+    (YieldsList-from_range 0 c.args.n c.args.n refl (omega arith)) (λ x q k. search (rules, tests)) (λ x q k. search (rules, tests)) in
+    let none = rw e at found in
+    rw (get_or-range_with_len 0 c.args.n k 0 h, zero-add) at (none k 0 (omega arith) (omega (arith, length-range_with_len 0 c.args.n)))

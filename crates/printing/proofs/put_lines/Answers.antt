@@ -2,12 +2,10 @@
 use Rattle.printing.proofs.Lines.{printed_counted, written_printed, refused_printed}
 use Rattle.printing.proofs.put_lines.Goals as goal
 
-pub returns-in-Refused : goal.returns-in-Refused
-returns-in-Refused c = let reported = rw c.in-Refused.is at c.write_report-answer.ensures in
-    let printed = refused_printed _ _ _ _ _ _ _ reported c.put_refusal.ensures in
-    record { printed = printed; counted = printed_counted printed }
+pub returns-in-Err-clause-printed : goal.returns-in-Err-clause-printed
+returns-in-Err-clause-printed c = refused_printed _ _ _ _ _ _ _ (rw c.in-Err.is at c.write_report.ensures) c.put_refusal.ensures
 
-pub returns-in-Written : goal.returns-in-Written
-returns-in-Written c = let reported = rw c.in-Written.is at c.write_report-answer.ensures in
+pub returns-in-Ok : goal.returns-in-Ok
+returns-in-Ok c = let reported = rw c.in-Ok.is at c.write_report.ensures in
     let printed = written_printed _ _ _ _ _ _ reported in
     record { printed = printed; counted = printed_counted printed }

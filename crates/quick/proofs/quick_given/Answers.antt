@@ -1,10 +1,15 @@
 -- What is found up to the horizon is the verdict; only the working memory is written. Assumes nothing.
-use Rattle.quick.proofs.Giving.{sound_room, sound_horizon, quick_is}
-use lib.ListN.{length}
+use Rattle.quick.proofs.Giving.{quick_is}
+use mathlib.Core.Path.{◌≡◌, sym, ap, ◌∙◌}
+use Prim.Native.Nat.{ℕ}
+use mathlib.Core.List.{List}
+use Rattle.format.specs.Judgement.{sheet_in}
+use Rattle.quick.proofs.quick_given.Goals.{After-first_of_all}
 use Rattle.quick.proofs.quick_given.Goals as goal
 
-pub first_of_all-requires : goal.first_of_all-requires
-first_of_all-requires c = let p = c.requires in record { accepted = p.met.accepted; modules_value = p.modules_are; horizon_value = (p.horizon_is, sound_horizon p); rows_of = c.module_rows-rows.ensures; work_numbers_bound = sound_room (length c.args.work.now) p }
+-- the table's horizon is the one that was judged
+horizon_is : (c : After-first_of_all) → c.new-table.result.horizon ≡ c.args.judged.horizon
+horizon_is c = c.new-table.result.horizon_is ∙ ap (λ (bs : List ℕ). (sheet_in bs).horizon) c.new-table.ensures.sheet ∙ sym c.requires.horizon_is
 
 pub returns : goal.returns
-returns c = quick_is c.args.sheet.now c.args.work.now _ _ _ _ _ c.requires c.first_of_all.ensures c.verdict.ensures
+returns c = quick_is c.args.sheet.now c.args.work.now _ _ _ c.requires (rw (horizon_is (goal.at.returns c).After-first_of_all, c.new-table.ensures.sheet) at c.first_of_all.ensures)

@@ -1,15 +1,10 @@
--- `round` fills the row of one round more from its front. Assumes nothing.
-use mathlib.Core.Path.{◌≡◌}
-use native.Mathlib.Omega.{arith}
-use Rattle.reach.proofs.Rows.{names_none, names_more}
+-- `round` asks of each mode of the module whether it is reached. Assumes nothing.
+use Rattle.std.proofs.Common.{rules, tests, ◌&&◌, false, ltb}
+use Rattle.layers.proofs.Making.{made}
+use Rattle.reach.specs.Names.{in_round}
+use Rattle.reach.proofs.Rows.{names_made}
 use Rattle.reach.proofs.round.Goals as goal
 
-pub loop-t-init : goal.loop-t-init
-loop-t-init c = (omega arith, names_none _)
-
-pub loop-t-preserved : goal.loop-t-preserved
-loop-t-preserved c = (omega arith, names_more c.loop-t.invariant.1 (omega arith) _ c.is_reached.ensures)
-
 pub returns : goal.returns
-returns c = let all : c.loop-t.t ≡ c.args.modes = omega arith in
-    rw all at c.loop-t.invariant.1
+returns c = let a = c.args in
+    names_made c.from_fn.ensures.items.long (λ t h. made _ _ (λ t. ltb t a.modes && in_round a.listed.now a.modes a.row.now t) _ 8 (λ i y q l m. search (rules, tests)) c.from_fn.ensures.items t false h) c.requires

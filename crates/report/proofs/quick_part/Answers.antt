@@ -6,7 +6,7 @@ use Rattle.report.proofs.Giving.{quick_said}
 use Rattle.report.proofs.quick_part.Goals as goal
 
 pub returns : goal.returns
-returns c = let tested = c.quick_test-quick.ensures in
+returns c = let tested = rw c.unwrap-over.ensures at c.quick_test.ensures in
     let is = quick_said c.requires.0 tested in
     let line = c.quick_line.ensures in
-    (rw (ap (said quick_line) is) at line.0, line.1, rw is at tested.memory)
+    (rw (ap (said quick_line) is) at line.0, line.1, tested.memory)

@@ -1,11 +1,7 @@
-use Prim.Native.Nat.{◌-◌, ◌≤◌}
 use Rattle.query.specs.Memory.{tapes_in}
 use Rattle.lines.specs.Lines.{run_lines}
 use Rattle.writing.specs.Writing.{Put}
 use Rattle.report.proofs.run_lines.Given as goal
 
 abbrev pub invariant-loop-k : goal.invariant-loop-k
-invariant-loop-k l = Put l.at l.next (run_lines 0 (tapes_in l.k l.end l.tape)) l.initial.out l.out × (l.k ≤ l.modules)
-
-abbrev pub decreases-loop-k : goal.decreases-loop-k
-decreases-loop-k l = l.modules - l.k
+invariant-loop-k l = Put l.at l.next (run_lines 0 (tapes_in l.k l.end l.tape)) l.initial.out l.out

@@ -5,23 +5,17 @@ use native.Mathlib.Omega.{arith}
 use lib.ListN.{length}
 use Rattle.format.specs.Judgement.{sheet_in}
 use Rattle.tiles.proofs.Parts.{within_then}
-use Rattle.search.proofs.Filling.{kept_by_clearing, filled_none, filled_more, filled_all}
+use Rattle.search.proofs.Filling.{kept_by_clearing, filled_none}
 use Rattle.search.proofs.Keeping.{tile_kept, longest_kept}
 use Rattle.search.proofs.fill_tile.Goals as goal
 
 pub loop-k-init : goal.loop-k-init
 loop-k-init c = let cleared = c.clear_cells.ensures in
-    (filled_none _ _ _ _ _ (tile_kept (kept_by_clearing cleared) c.requires.tile) cleared, omega arith)
+    filled_none _ _ _ _ _ (tile_kept (kept_by_clearing cleared) c.requires) cleared
 
 pub add_module-requires : goal.add_module-requires
-add_module-requires c = let done = c.loop-k.invariant.0 in
-    let number : c.loop-k.k < length (sheet_in c.args.sheet.now).modules = omega (arith, c.requires.modules_value) in
+add_module-requires c = let done = c.loop-k.invariant in
+    let number : c.loop-k.k < length (sheet_in c.args.table.now.sheet.bytes.now).modules = omega (arith, c.args.table.now.modules_are) in
     let kept = within_then (kept_by_clearing c.clear_cells.ensures) done.kept in
     let last : pred (c.args.lo + c.args.width) ≡ c.args.lo + c.args.width - 1 = omega arith in
-    record { accepted = c.requires.accepted; k_in_bounds = number; rows_of = c.requires.rows_of; cells_of = (done.cells, tile_kept kept c.requires.tile, longest_kept kept last (omega (arith, c.requires.tile.ends)) c.longest-stop.ensures) }
-
-pub loop-k-preserved : goal.loop-k-preserved
-loop-k-preserved c = (filled_more c.loop-k.invariant.0 c.add_module.ensures, omega arith)
-
-pub returns : goal.returns
-returns c = filled_all c.loop-k.invariant.0 c.clear_cells.ensures (omega arith)
+    record { k_in_bounds = number; cells_of = (done.cells, tile_kept kept c.requires, longest_kept kept last (omega (arith, c.requires.ends)) c.longest-stop.ensures) }

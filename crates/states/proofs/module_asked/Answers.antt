@@ -1,19 +1,23 @@
--- The sheet's fault goes before the length and the module, and these before the memory. Assumes nothing.
-use mathlib.Core.Path.{refl}
-use Rattle.format.specs.Judgement.{sheet_in}
-use Rattle.query.specs.Query.{is_module, module_terms}
-use Rattle.states.proofs.Asking.{is_accepted, is_refused, asks_far, asks_near}
+-- The sheet's fault goes before the arguments, and these before the memory. Assumes nothing.
+use borrow.Author.Tests.{lt-ltb, le-ltb}
+use Rattle.query.specs.Query.{module_terms}
+use Rattle.query.proofs.Meeting.{fault_refused}
+use Rattle.std.proofs.lemmas.Result.{err_from_is_err_and}
+use Rattle.judge.proofs.JudgedLaws.{accepted_told, refused_told}
+use Rattle.states.proofs.Asking.{asks_tested}
+use Rattle.states.proofs.module_asked.Goals.{then-module-judged, else-module-judged}
 use Rattle.states.proofs.module_asked.Goals as goal
 
-pub returns-then-horizon-length : goal.returns-then-horizon-length
-returns-then-horizon-length c = let a = c.args in
-    asks_far (module_terms a.«module» a.length a.work) a.sheet.now (is_accepted a.sheet.now c.judge-judged.ensures c.in-Accepted.is) a.length (is_module (sheet_in a.sheet.now) a.«module») refl c.if-horizon-length.true c.tested.ensures
+pub returns-in_err-judged : goal.returns-in_err-judged
+returns-in_err-judged c = let a = c.args in
+    let p = err_from_is_err_and c.from_residual.result c.from_residual.ensures.1 in
+    rw (p.1, p.2) (fault_refused (module_terms a.«module» a.length a.work) a.sheet.now (refused_told _ a.sheet.now c.in_err-judged.ensures))
 
-pub returns-in-Refused : goal.returns-in-Refused
-returns-in-Refused c = let a = c.args in
-    is_refused a.sheet.now c.judge-judged.ensures (module_terms a.«module» a.length a.work) c.in-Refused.is
-
-pub returns-else-horizon-length : goal.returns-else-horizon-length
-returns-else-horizon-length c = let a = c.args in
-    let w = is_accepted a.sheet.now c.judge-judged.ensures c.in-Accepted.is in
-    asks_near (module_terms a.«module» a.length a.work) a.sheet.now w a.length (is_module (sheet_in a.sheet.now) a.«module») refl c.if-horizon-length.false (rw w.modules_are at c.tested-in-Accepted.ensures)
+pub returns : goal.returns
+returns c = let a = c.args in
+    let w = accepted_told c.in_ok-judged.judged a.sheet.now c.in_ok-judged.ensures in
+    asks_tested (module_terms a.«module» a.length a.work) a.sheet.now w.is_accepted
+    (elim c.if-module-judged.branch [
+      | then-module-judged v ↦ rw (v.in_range-is, w.horizon_is, ← w.modules_are, lt-ltb _ _ v.if-module-judged.true)
+      | else-module-judged v ↦ rw (v.in_range-is, ← w.modules_are, le-ltb _ _ v.if-module-judged.false)
+    ]) c.tested.ensures

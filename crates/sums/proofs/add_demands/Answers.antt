@@ -2,17 +2,14 @@
 use mathlib.Core.Path.{refl}
 use Prim.Native.Nat.{◌+◌}
 use native.Mathlib.Omega.{arith}
-use Rattle.sums.proofs.Sums.{told_modes, told_states, part_size, part_start, summed_start, summed_more, summed_end}
+use Rattle.sums.proofs.Sums.{told_states, part_size, part_start, summed_start, summed_more, summed_end}
 use Rattle.sums.proofs.add_demands.Goals as goal
-
-pub states_of-requires : goal.states_of-requires
-states_of-requires c = told_modes _ _ c.requires.3
 
 pub clear-requires : goal.clear-requires
 clear-requires c = omega (arith, told_states _ _ c.requires.3, part_size c.args.work.now c.requires.1)
 
 pub loop-l-init : goal.loop-l-init
-loop-l-init c = (summed_start _ _ _, part_start _ _ _ c.args.work.now _ c.requires.3 c.requires.1 c.states_of.ensures c.clear.ensures, omega arith)
+loop-l-init c = (summed_start _ _ _, part_start _ _ _ c.args.work.now _ c.requires.3 c.requires.1 c.states_of.ensures c.clear.ensures)
 
 pub add_next-requires : goal.add_next-requires
 add_next-requires c = let p = c.requires in
@@ -22,7 +19,7 @@ add_next-requires c = let p = c.requires in
 
 pub loop-l-preserved : goal.loop-l-preserved
 loop-l-preserved c = let new = c.add_next.ensures in
-    (summed_more _ _ _ _ _ _ (omega arith) c.loop-l.invariant.0 new, new.layer, omega arith)
+    (summed_more _ _ _ _ _ _ (omega arith) c.loop-l.invariant.0 new, new.layer)
 
 pub returns : goal.returns
 returns c = summed_end _ _ _ _ c.args.work.now c.clear.new.layer _ (omega arith) c.requires.0 c.requires.1 c.clear.ensures.len c.loop-l.invariant.0

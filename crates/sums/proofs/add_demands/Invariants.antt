@@ -1,10 +1,6 @@
-use Prim.Native.Nat.{◌-◌, ◌≤◌}
 use Rattle.memory.specs.Map.{layer_part}
 use Rattle.sums.specs.Sums.{Layered, Summed}
 use Rattle.sums.proofs.add_demands.Given as goal
 
 abbrev pub invariant-loop-l : goal.invariant-loop-l
-invariant-loop-l l = (Summed l.shape l.numbers l.l l.initial.work l.work) × (Layered l.shape l.numbers l.l (layer_part l.work)) × (l.l ≤ l.horizon)
-
-abbrev pub decreases-loop-l : goal.decreases-loop-l
-decreases-loop-l l = l.horizon - l.l
+invariant-loop-l l = (Summed l.shape l.numbers l.l l.initial.work l.work) × (Layered l.shape l.numbers l.l (layer_part l.work))

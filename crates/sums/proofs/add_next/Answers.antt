@@ -2,8 +2,8 @@
 use Rattle.sums.proofs.Sums.{sum_fits, added}
 use Rattle.sums.proofs.add_next.Goals as goal
 
-pub overflow_add-work : goal.overflow_add-work
-overflow_add-work c = let p = c.requires in
+pub overflow_add-work-2 : goal.overflow_add-work-2
+overflow_add-work-2 c = let p = c.requires in
     let new = c.next_demand-more in
     record { fits = sum_fits _ _ _ _ c.args.work.now new.new.layer p.3 p.0 p.1 p.2 new.ensures.2 }
 

@@ -1,10 +1,7 @@
 -- `largest_demand` takes the largest number of the layer's states. Assumes nothing.
 use native.Mathlib.Omega.{arith}
-use Rattle.sums.proofs.Sums.{told_modes, told_states, layer_demand}
+use Rattle.sums.proofs.Sums.{told_states, layer_demand}
 use Rattle.sums.proofs.largest_demand.Goals as goal
-
-pub states_of-requires : goal.states_of-requires
-states_of-requires c = told_modes _ _ c.requires.2
 
 pub largest-requires : goal.largest-requires
 largest-requires c = omega (arith, told_states _ _ c.requires.2)

@@ -2,7 +2,7 @@
 use Rattle.table.proofs.module_row.Goals as goal
 
 pub row_at-requires : goal.row_at-requires
-row_at-requires c = record { accepted = c.requires.accepted; some_module = record { k = c.args.k; there = record { number = c.requires.k_in_bounds; place = c.module_place.ensures } } }
+row_at-requires c = record { k = c.args.k; there = record { number = c.requires; place = c.module_place.ensures } }
 
 pub returns : goal.returns
-returns c = c.row_at.ensures c.args.k (record { number = c.requires.k_in_bounds; place = c.module_place.ensures })
+returns c = c.row_at.ensures c.args.k (record { number = c.requires; place = c.module_place.ensures })

@@ -3,25 +3,20 @@ use mathlib.Core.List.{List}
 use mathlib.Core.Path.{◌∙◌}
 use Prim.Native.Nat.{ℕ}
 use native.Mathlib.Omega.{arith}
-use Rattle.place.proofs.Counting.{are_bytes, some_within}
-use Rattle.table.proofs.Entering.{this_mode, some_mode, period_there, no_period}
-use Rattle.table.proofs.Starting.{within_modes}
+use Rattle.place.proofs.Counting.{some_within}
+use Rattle.table.proofs.Entering.{period_there}
 use Rattle.table.proofs.period_at.Goals as goal
 
-pub returns-then-modes_at-j : goal.returns-then-modes_at-j
-returns-then-modes_at-j c = no_period c.modes_at.ensures c.if-modes_at-j.true
-
-pub mode_from-q-requires : goal.mode_from-q-requires
-mode_from-q-requires c = record { accepted = c.requires.accepted; some_modes = within_modes c.requires.some_module c.modes_at.ensures (omega arith) }
-
 pub overflow_add-q : goal.overflow_add-q
-overflow_add-q c = let bs : List ℕ = c.args.sheet.now in
-    omega (arith, some_within bs c.requires.accepted (are_bytes bs c.type_inv.sheet) _ (some_mode c.modes_at.ensures c.if-modes_at-j.false c.mode_from-q.ensures c.requires.some_module))
+overflow_add-q c = let bs : List ℕ = c.args.sheet.now.bytes.now in
+    let some = c.requires in
+    omega (arith, some_within bs c.args.sheet.now.accepted c.args.sheet.now.are_bytes _ (record { k = some.k; j = c.args.j; there = c.in-Some.ensures some.k some.there }))
 
 pub field-requires : goal.field-requires
-field-requires c = let bs : List ℕ = c.args.sheet.now in
-    omega (arith, some_within bs c.requires.accepted (are_bytes bs c.type_inv.sheet) _ (some_mode c.modes_at.ensures c.if-modes_at-j.false c.mode_from-q.ensures c.requires.some_module))
+field-requires c = let bs : List ℕ = c.args.sheet.now.bytes.now in
+    let some = c.requires in
+    omega (arith, some_within bs c.args.sheet.now.accepted c.args.sheet.now.are_bytes _ (record { k = some.k; j = c.args.j; there = c.in-Some.ensures some.k some.there }))
 
-pub returns : goal.returns
-returns c = let bs : List ℕ = c.args.sheet.now in
-    λ k h. c.field.ensures ∙ period_there bs c.requires.accepted (are_bytes bs c.type_inv.sheet) k c.args.j _ (this_mode c.modes_at.ensures c.if-modes_at-j.false c.mode_from-q.ensures k h)
+pub returns-in-Some : goal.returns-in-Some
+returns-in-Some c = let bs : List ℕ = c.args.sheet.now.bytes.now in
+    λ k h. c.field.ensures ∙ period_there bs c.args.sheet.now.accepted c.args.sheet.now.are_bytes k c.args.j _ (c.in-Some.ensures k h)

@@ -1,25 +1,23 @@
--- The search stops at the first switch that names the mode, or behind the last. Assumes nothing.
+-- The search finds the first switch that names the mode. Assumes nothing.
+use mathlib.Core.Path.{◌≡◌}
 use mathlib.Core.List.{List}
-use Prim.Native.Nat.{ℕ}
-use Rattle.place.proofs.Counting.{are_bytes}
-use Rattle.table.proofs.Switching.{looked_none, looked_found, looked_more, looked_all}
+use Prim.Native.Nat.{ℕ, ◌+◌, ◌*◌, ◌≤◌}
+use lib.ListN.{length}
+use borrow.Author.Tests.{tests}
+use Rattle.std.proofs.Common.{rules}
+use Rattle.std.proofs.lemmas.Iterator.{serves_from_Range, first_from_Range}
+use Rattle.format.specs.Record.{field_at}
+use Rattle.place.proofs.Counting.{switches_within}
+use Rattle.table.proofs.Switching.{first_found}
 use Rattle.table.proofs.switch_to.Goals as goal
 
-pub switches_from-q-requires : goal.switches_from-q-requires
-switches_from-q-requires c = c.requires
-
-pub switches_at-n-requires : goal.switches_at-n-requires
-switches_at-n-requires c = c.requires
-
-pub loop-i-init : goal.loop-i-init
-loop-i-init c = let bs : List ℕ = c.args.sheet.now in
-    looked_none bs c.requires.accepted (are_bytes bs c.type_inv.sheet) c.args.p _ _ _ c.requires.some_mode c.switches_from-q.ensures c.switches_at-n.ensures
-
-pub returns-then-field-t : goal.returns-then-field-t
-returns-then-field-t c = looked_found c.loop-i.invariant c.loop-i-test.true c.field.ensures c.if-field-t.true
-
-pub loop-i-preserved : goal.loop-i-preserved
-loop-i-preserved c = looked_more c.loop-i.invariant c.loop-i-test.true c.field.ensures c.if-field-t.false
+pub find-requires-clause-callable : goal.find-requires-clause-callable
+find-requires-clause-callable c = let bs : List ℕ = c.args.sheet.now.bytes.now in
+    let within : c.switches_from-q.result + 6 * c.switches_at.result ≤ length bs = switches_within bs c.args.sheet.now.accepted c.args.sheet.now.are_bytes c.args.p c.requires _ _ c.switches_from-q.ensures c.switches_at.ensures in
+    serves_from_Range (λ x s r. search rules) (λ x low high. search rules)
 
 pub returns : goal.returns
-returns c = looked_all c.loop-i.invariant c.loop-i-test.false
+returns c = let bs : List ℕ = c.args.sheet.now.bytes.now in
+    let q : ℕ = c.switches_from-q.result in
+    λ k j h. first_found bs c.args.sheet.now.accepted c.args.sheet.now.are_bytes c.args.p q _ c.args.t k j h (c.switches_from-q.ensures k j h) (c.switches_at.ensures k j h) c.find.result
+    (first_from_Range _ _ _ _ (λ i. field_at bs (q + 6 * i + 2) ≡ c.args.t) (λ i. field_at bs (q + 6 * i + 2) ≡ c.args.t → ⊥) c.find.ensures.ran (λ x s r. search (rules, tests)) (λ x s r. search (rules, tests)))

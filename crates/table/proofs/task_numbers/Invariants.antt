@@ -1,9 +1,5 @@
-use Prim.Native.Nat.{◌-◌}
 use Rattle.table.proofs.Gathering.{Gathered}
 use Rattle.table.proofs.task_numbers.Given as goal
 
-abbrev pub invariant-loop-j : goal.invariant-loop-j
-invariant-loop-j l = Gathered l.sheet l.p l.n l.numbers l.q l.at l.j
-
-abbrev pub decreases-loop-j : goal.decreases-loop-j
-decreases-loop-j l = l.n - l.j
+abbrev pub invariant-loop-start : goal.invariant-loop-start
+invariant-loop-start l = Gathered l.sheet.bytes.now l.p l.start-index-end l.numbers l.q l.start-index

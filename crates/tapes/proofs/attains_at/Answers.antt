@@ -5,17 +5,15 @@ use native.Mathlib.Omega.{arith}
 use lib.Dec.{eqb}
 use Rattle.tapes.proofs.attains_at.Goals as goal
 
-pub begins-requires : goal.begins-requires
-begins-requires c = let p = c.requires in (p.0, p.1, p.2)
-
-pub head-requires : goal.head-requires
-head-requires c = let p = c.requires in (p.3, omega (arith, p.0.1.told.modes, p.0.1.rule.most), p.4)
-
 pub returns-then-begins : goal.returns-then-begins
-returns-then-begins c = λ m numbers f ok told heads.
-    let j = c.requires.2 in
-    let o = sym (c.begins.ensures m numbers ok told) ∙ c.if-begins.true in
-    rw o (ap (λ (v : ℕ). eqb v c.args.top) (c.head.ensures.0 ∙ heads c.args.j (omega (arith, told.modes))))
+returns-then-begins c = record {
+  each = λ m numbers f ok told heads.
+      let j = c.requires.2 in
+      let o = sym (c.begins.ensures m numbers ok told) ∙ c.if-begins.true in
+      rw o (ap (λ (v : ℕ). eqb v c.args.top) (c.head.ensures.0 ∙ heads c.args.j (omega (arith, told.modes))));
+}
 
-pub returns : goal.returns
-returns c = λ m numbers f ok told heads. let o = sym (c.begins.ensures m numbers ok told) ∙ c.if-begins.false in rw o
+pub returns-else-begins : goal.returns-else-begins
+returns-else-begins c = record {
+  each = λ m numbers f ok told heads. let o = sym (c.begins.ensures m numbers ok told) ∙ c.if-begins.false in c.if-begins.false ∙ rw o;
+}

@@ -2,7 +2,7 @@
 use mathlib.Core.Path.{◌∙◌, ap}
 use native.Mathlib.Omega.{arith}
 use Rattle.model.specs.Run.{gain}
-use Rattle.tapes.proofs.Following.{Gained, following_start, following_end, following_more, gain_below, top_is, mode_below}
+use Rattle.tapes.proofs.Following.{Gained, following_end, following_more, gain_below, top_is, mode_below}
 use Rattle.tapes.proofs.follow.Goals.{After-gain_at-v}
 use Rattle.tapes.proofs.follow.Goals as goal
 
@@ -11,40 +11,24 @@ gained : (c : After-gain_at-v) → let a = c.args in
     let l = c.loop-t in
     Gained a.shape a.numbers.now a.a a.b a.tape.now l.tape l.s l.v l.t c.gain_at-v.result
 gained c = record {
-  now = c.loop-t.invariant.1;
+  now = c.loop-t.invariant;
   inside = c.loop-t-test.true;
   gains = λ m ok told. c.gain_at-v.ensures.1 m ok told ∙ ap (gain m _ 0) c.counted_at.ensures;
 }
 
-pub loop-t-init : goal.loop-t-init
-loop-t-init c = let p = c.requires in (omega arith, following_start _ _ _ _ p.0 _ _ _ p.4 c.head-v.ensures.0)
-
-pub overflow_cast-tape : goal.overflow_cast-tape
-overflow_cast-tape c = let p = c.requires in omega (arith, p.0.told.modes, p.0.rule.most, c.loop-t.invariant.1.within.mode)
-
-pub bounds-tape-t : goal.bounds-tape-t
-bounds-tape-t c = omega (arith, c.loop-t.invariant.1.len)
-
-pub gain_at-v-requires : goal.gain_at-v-requires
-gain_at-v-requires c = (c.requires.0, c.loop-t.invariant.1.within.mode)
-
 pub overflow_sub-v : goal.overflow_sub-v
 overflow_sub-v c = gain_below _ _ _ _ c.requires.0 _ _ _ _ _ _ (gained (goal.at.overflow_sub-v c).After-gain_at-v)
 
-pub next_mode-to-requires : goal.next_mode-to-requires
-next_mode-to-requires c = let p = c.requires in
-    record { tells = (p.0, c.loop-t.invariant.1.within, omega arith, p.1, p.3, p.4); each = top_is _ _ _ _ p.0 _ _ _ _ _ _ (gained (goal.at.next_mode-to-requires c).After-gain_at-v) }
+pub next_mode-to-requires-clause-each : goal.next_mode-to-requires-clause-each
+next_mode-to-requires-clause-each c = top_is _ _ _ _ c.requires.0 _ _ _ _ _ _ (gained (goal.at.next_mode-to-requires-clause-each c).After-gain_at-v)
 
 pub go-s-requires : goal.go-s-requires
 go-s-requires c = let p = c.requires in
-    ((_, p.0), c.loop-t.invariant.1.within, mode_below _ _ _ _ p.0 _ _ _ _ _ _ (gained (goal.at.go-s-requires c).After-gain_at-v) _ c.next_mode-to.ensures)
+    ((_, p.0), c.loop-t.invariant.within, mode_below _ _ _ _ p.0 _ _ _ _ _ _ (gained (goal.at.go-s-requires c).After-gain_at-v) _ c.next_mode-to.ensures)
 
 pub loop-t-preserved : goal.loop-t-preserved
 loop-t-preserved c = let p = c.requires in
-    (omega arith, following_more _ _ _ _ p.0 _ _ _ _ _ _ (gained (goal.at.loop-t-preserved c).After-gain_at-v) _ c.next_mode-to.ensures _ c.go-s.ensures p.2)
-
-pub shape_of-tape : goal.shape_of-tape
-shape_of-tape c = omega (arith, c.loop-t.invariant.1.len)
+    following_more _ _ _ _ p.0 _ _ _ _ _ _ (gained (goal.at.loop-t-preserved c).After-gain_at-v) _ c.next_mode-to.ensures _ c.go-s.ensures p.2
 
 pub returns : goal.returns
-returns c = following_end _ _ _ _ c.requires.0 _ _ _ _ _ (omega arith) c.loop-t.invariant.1
+returns c = following_end _ _ _ _ c.requires.0 _ _ _ _ _ (omega arith) c.loop-t.invariant

@@ -3,12 +3,6 @@ use mathlib.Core.Path.{sym, ◌∙◌}
 use native.Mathlib.Omega.{arith}
 use Rattle.tapes.proofs.offer.Goals as goal
 
-pub begins-requires : goal.begins-requires
-begins-requires c = let p = c.requires in (p.0, p.1, p.2)
-
-pub head-requires : goal.head-requires
-head-requires c = let p = c.requires in (p.3, omega (arith, p.0.1.told.modes, p.0.1.rule.most), p.4)
-
 pub returns-then-begins : goal.returns-then-begins
 returns-then-begins c = let r = c.head.ensures in (
   r.1,
@@ -18,5 +12,5 @@ returns-then-begins c = let r = c.head.ensures in (
       rw o (r.0 ∙ heads c.args.j (omega (arith, told.modes))),
 )
 
-pub returns : goal.returns
-returns c = (omega arith, λ m numbers f ok told heads. let o = sym (c.begins.ensures m numbers ok told) ∙ c.if-begins.false in rw o)
+pub returns-else-begins : goal.returns-else-begins
+returns-else-begins c = (omega arith, λ m numbers f ok told heads. let o = sym (c.begins.ensures m numbers ok told) ∙ c.if-begins.false in rw o)

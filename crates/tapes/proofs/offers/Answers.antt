@@ -1,5 +1,5 @@
 -- `offers` is the largest offer: so far of the modes below j. Assumes nothing.
-use mathlib.Core.Path.{◌≡◌, refl, ◌∙◌, ap}
+use mathlib.Core.Path.{◌≡◌, ◌∙◌, ap}
 use native.Mathlib.Omega.{arith}
 use native.Mathlib.Numerals.{add-one}
 use lib.ListN.{length}
@@ -9,23 +9,17 @@ use Rattle.following.specs.Follow.{opens}
 use Rattle.tapes.specs.States.{the}
 use Rattle.tapes.proofs.offers.Goals as goal
 
-pub loop-j-init : goal.loop-j-init
-loop-j-init c = (omega arith, omega arith, λ m numbers f ok told heads. refl)
-
-pub offer-requires : goal.offer-requires
-offer-requires c = let p = c.requires in (p.0, p.1, omega arith, p.2, p.3)
-
 pub loop-j-preserved : goal.loop-j-preserved
 loop-j-preserved c = let j = c.loop-j.j in
     let one = c.offer.ensures in
     let so_far = c.loop-j.invariant in
-    let joined = c.larger-top.ensures in
-    (omega arith, omega (arith, one.0), λ m numbers f ok told heads. rw (add-one j) (omega (arith, one.1 m numbers f ok told heads, so_far.2 m numbers f ok told heads)))
+    let joined = c.max-top.ensures in
+    (omega (arith, one.0), λ m numbers f ok told heads. rw (add-one j) (omega (arith, one.1 m numbers f ok told heads, so_far.1 m numbers f ok told heads)))
 
 pub returns : goal.returns
 returns c = let so_far = c.loop-j.invariant in (
-  so_far.1,
+  so_far.0,
   λ m numbers f ok told heads.
       let e : c.loop-j.j ≡ length m.modes = omega (arith, told.modes) in
-      so_far.2 m numbers f ok told heads ∙ ap (max_below (λ i. when (opens m (the c.args.s) i) (f (at i 0)))) e,
+      so_far.1 m numbers f ok told heads ∙ ap (max_below (λ i. when (opens m (the c.args.s) i) (f (at i 0)))) e,
 )

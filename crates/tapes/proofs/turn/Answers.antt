@@ -2,12 +2,9 @@
 use native.Mathlib.Omega.{arith}
 use Rattle.tapes.proofs.turn.Goals as goal
 
-pub offers-requires : goal.offers-requires
-offers-requires c = let p = c.requires in ((_, p.0), p.1, p.2, p.3)
-
 pub returns : goal.returns
 returns c = λ m f ok told heads.
     let g = c.gain_at.ensures.1 m ok told in
     let o = c.offers.ensures.1 m _ f ok told heads in
-    let l = c.larger-best.ensures in
-    omega arith
+    let l = c.max-best.ensures in
+    grind arith

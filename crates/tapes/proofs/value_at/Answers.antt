@@ -1,14 +1,10 @@
 -- `value_at` walks along a stay from its end back: v is the value i ticks on, where the stay goes on to there. Assumes nothing.
-use mathlib.Core.Path.{◌≡◌, sym, ◌∙◌}
+use mathlib.Core.Path.{◌≡◌, sym}
 use Prim.Native.Nat.{ℕ, ◌+◌, ◌-◌}
 use native.Mathlib.Omega.{arith}
-use mir.Syntax.{w16}
-use mir.Val.{Fits}
-use borrow.Author.Rules.{rules}
 use Rattle.model.specs.Demand.{value}
-use Rattle.layers.specs.Step.{look}
 use Rattle.layers.specs.Layer.{Each}
-use Rattle.tapes.proofs.Values.{stay_value, stay_first, stay_over, stay_fits, stay_back}
+use Rattle.tapes.proofs.Values.{stay_value, stay_over, stay_fits, stay_back}
 use Rattle.tapes.proofs.value_at.Goals.{After-turn-v}
 use Rattle.tapes.proofs.value_at.Goals as goal
 
@@ -22,39 +18,20 @@ turned c m ok told =
     let j : ℕ = i - 1 in
     let q = (told.each _ p.1.mode).period in
     let heads = p.5 m ok told (a.t + j + 1) (omega arith) (omega arith) in
-    stay_back m ok a.a a.b a.t a.s.mode a.s.time i j _ _ _ (omega arith) c.counted_at-l.ensures (c.loop-i.invariant.3 m ok told)
+    stay_back m ok a.a a.b a.t a.s.mode a.s.time i j _ _ _ (omega arith) c.counted_at-l.ensures (c.loop-i.invariant.1 m ok told)
     (c.turn-v.ensures m (value m (a.a - (a.t + j + 1)) (a.b - (a.t + j + 1))) ok told heads) (omega arith) (omega (arith, told.modes)) (omega arith)
 
 pub loop-i-init : goal.loop-i-init
 loop-i-init c = let p = c.requires in
     let a = c.args in (
       omega arith,
-      omega arith,
-      omega arith,
       λ m ok told.
           let q = (told.each _ p.1.mode).period in
-          sym (stay_over m ok a.a a.b a.t a.s.mode a.s.time c.smaller-i.result (omega arith) (omega arith)),
+          sym (stay_over m ok a.a a.b a.t a.s.mode a.s.time _ (omega arith) (omega arith)),
     )
-
-pub overflow_add-d : goal.overflow_add-d
-overflow_add-d c = let a = c.args in
-    let f : Fits w16 (look a.shape.periods a.s.mode) = search rules in
-    record { fits = omega (arith, f.fits) }
-
-pub turn-v-requires : goal.turn-v-requires
-turn-v-requires c = let p = c.requires in (p.0, record { mode = p.1.mode; time = omega arith }, omega arith, p.4, omega arith)
 
 pub loop-i-preserved : goal.loop-i-preserved
 loop-i-preserved c = let o = c.requires.0 in
     let a = c.args in
     let fits = stay_fits o.owner o.rule a.a a.b a.t a.s.mode a.s.time (c.loop-i.i - 1) (omega arith) in
-    (omega arith, omega arith, omega (arith, turned (goal.at.loop-i-preserved c).After-turn-v o.owner o.rule o.told), turned (goal.at.loop-i-preserved c).After-turn-v)
-
-pub returns : goal.returns
-returns c = let p = c.requires in
-    let a = c.args in
-    let i = c.loop-i.i in
-    let z : i ≡ 0 = omega arith in
-    λ m ok told.
-    let q = (told.each _ p.1.mode).period in
-    rw z at (c.loop-i.invariant.3 m ok told) ∙ stay_first m ok a.a a.b a.t a.s.mode a.s.time (omega arith)
+    (omega (arith, turned (goal.at.loop-i-preserved c).After-turn-v o.owner o.rule o.told), turned (goal.at.loop-i-preserved c).After-turn-v)

@@ -9,12 +9,7 @@ use Rattle.tiles.proofs.Cells.{module_start, module_rest, row_fits, module_more}
 use Rattle.tiles.proofs.add_lengths.Goals as goal
 
 pub loop-l-init : goal.loop-l-init
-loop-l-init c = (omega (arith, rows_most c.args.work.now 0), omega arith, refl, module_start _ _ _ _ _, c.requires.3)
-
-pub next_figures-requires : goal.next_figures-requires
-next_figures-requires c = let p = c.requires in
-    let j = c.loop-l.invariant in
-    (omega arith, omega arith, omega arith, p.2, j.4)
+loop-l-init c = (omega (arith, rows_most c.args.work.now 0), refl, module_start _ _ _ _ _, c.requires.3)
 
 pub add_row-row-requires : goal.add_row-row-requires
 add_row-row-requires c = let p = c.requires in
@@ -24,7 +19,7 @@ add_row-row-requires c = let p = c.requires in
       omega arith,
       omega (arith, rows_most c.args.work.now l.l),
       omega arith,
-      row_fits _ _ _ _ _ _ _ _ _ _ l.invariant.3 new l.invariant.2 short _ l.invariant.0 p.2 p.0 p.1 (omega arith),
+      row_fits _ _ _ _ _ _ _ _ _ _ l.invariant.2 new l.invariant.1 short _ l.invariant.0 p.2 p.0 p.1 (omega arith),
     )
 
 pub loop-l-preserved : goal.loop-l-preserved
@@ -32,9 +27,9 @@ loop-l-preserved c = let l = c.loop-l in
     let new = c.next_figures.ensures in
     let row = c.add_row-row.ensures in
     let short : l.l < 2000 = omega arith in
-    let more = module_more _ _ _ _ _ _ _ _ _ _ l.invariant.3 new l.invariant.2 short _ l.invariant.0 _ _ row in
-    (more.0, omega arith, new.size ∙ l.invariant.2, more.1, λ m ok told. progress_kept (omega arith) row.within (new.each m ok told))
+    let more = module_more _ _ _ _ _ _ _ _ _ _ l.invariant.2 new l.invariant.1 short _ l.invariant.0 _ _ row in
+    (more.0, new.size ∙ l.invariant.1, more.1, λ m ok told. progress_kept (omega arith) row.within (new.each m ok told))
 
 pub returns : goal.returns
 returns c = let all : c.loop-l.l ≡ c.args.stop = omega arith in
-    module_rest _ _ _ _ _ _ _ _ (rw all c.requires.4) c.loop-l.invariant.3
+    module_rest _ _ _ _ _ _ _ _ (rw all c.requires.4) c.loop-l.invariant.2

@@ -5,10 +5,6 @@ use Rattle.tiles.proofs.Steps.{none_length, progress_start}
 use Rattle.tiles.proofs.Cells.{fit_begun, module_begun}
 use Rattle.tiles.proofs.add_module.Goals as goal
 
-pub begin-requires : goal.begin-requires
-begin-requires c = let p = c.requires in
-    ((_, p.2), omega arith, p.0.memory)
-
 pub add_lengths-requires : goal.add_lengths-requires
 add_lengths-requires c = let p = c.requires in
     let begun = c.begin.ensures in

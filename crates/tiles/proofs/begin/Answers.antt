@@ -5,7 +5,7 @@ use Rattle.tiles.proofs.Steps.{begun}
 use Rattle.tiles.proofs.begin.Goals as goal
 
 pub clear-requires : goal.clear-requires
-clear-requires c = omega (arith, told_states _ _ c.requires.0.1, c.states.ensures.0)
+clear-requires c = omega (arith, told_states _ _ c.requires.0.1, c.states-states.ensures.0)
 
 pub returns : goal.returns
-returns c = begun _ _ _ _ _ _ c.requires.2 c.states.ensures.0 c.mark_entries.ensures c.clear.ensures
+returns c = begun _ _ _ _ _ _ c.requires.2 c.states-states.ensures.0 c.mark_entries.ensures c.clear.ensures

@@ -1,11 +1,7 @@
 -- `next_figures` raises the figures by the next layer and the marks, which stand as they stood. Assumes nothing.
 use native.Mathlib.Omega.{arith}
-use Rattle.sums.proofs.Sums.{is_layer}
 use Rattle.tiles.proofs.Steps.{growable, progressed}
 use Rattle.tiles.proofs.next_figures.Goals as goal
-
-pub advance-requires : goal.advance-requires
-advance-requires c = let p = c.requires in (p.0, is_layer _ _ _ _ p.3 (λ m ok told. (p.4 m ok told).layer))
 
 pub raise_figures-requires : goal.raise_figures-requires
 raise_figures-requires c = let p = c.requires in

@@ -1,4 +1,3 @@
-use Prim.Native.Nat.{◌-◌, ◌≤◌}
 use Rattle.model.specs.Limits.{work_numbers}
 use Rattle.format.specs.Judgement.{sheet_in}
 use Rattle.query.specs.Memory.{Stays}
@@ -6,7 +5,4 @@ use Rattle.witness.proofs.Tapes.{WrittenTo}
 use Rattle.witness.proofs.write_tapes.Given as goal
 
 abbrev pub invariant-loop-k : goal.invariant-loop-k
-invariant-loop-k l = (l.k ≤ l.modules) × WrittenTo (sheet_in l.sheet) l.a l.b l.k l.initial.tape l.tape × Stays work_numbers l.initial.work l.work
-
-abbrev pub decreases-loop-k : goal.decreases-loop-k
-decreases-loop-k l = l.modules - l.k
+invariant-loop-k l = WrittenTo (sheet_in l.table.sheet.bytes.now) l.a l.b l.k l.initial.tape l.tape × Stays work_numbers l.initial.work l.work
