@@ -1,4 +1,4 @@
--- What is offered to the figures of a tile. These definitions speak of lists of numbers alone. Assumes nothing.
+-- What is offered to ends, and what a row of numbers takes of it. These definitions speak of lists of numbers alone. Assumes nothing.
 use Rattle.std.specs.Prelude.{◌≡◌, ◌⊎◌, Bool, true, false, List, ℕ, ◌+◌, ◌*◌, ◌/◌, ◌%◌, ◌≤◌, ◌<◌, length, take, drop}
 use Rattle.layers.specs.declared.Shape.{Shape}
 use Rattle.layers.specs.Step.{look, total, period, tasks_of}

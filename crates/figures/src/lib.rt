@@ -1,4 +1,5 @@
 // The figures of a module: for each end of a tile the largest demand in so many ticks before it over runs from tick 0, one length after the other.
+// The walk over what a module offers to ends is for all that takes it: `bounds` makes it too.
 #![tactic(auto)]
 
 ghost use Rattle.std.specs.Prelude.{◌≡◌, false, ℕ, ◌+◌, ◌-◌, ◌*◌, ◌/◌, ◌^◌, ◌<◌, ◌≤◌, length};
@@ -63,6 +64,7 @@ pub struct Offers<'a> {
 
 // Ends that numbers are offered to; in a row of numbers each end has one, of its own or not.
 pub trait Takes {
+    // which they are; what the row takes is `Took` of them, and the laws of that are of all ends (`proofs/Raises`)
     ghost ends: { Self → Ends };
 
     // Whether the mode may offer a number to any of them; where none can be offered no walk is made.

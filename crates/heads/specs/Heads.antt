@@ -22,10 +22,6 @@ head_of w t j = cond (eqb (j % 2) 0) (look w (pair_at t (j / 2)) % 65536) (look 
 abbrev pub HeadsAt : Module → (State → ℕ) → ℕ → List ℕ → Type 0
 HeadsAt m f t w = (j : ℕ) → j < length m.modes → head_of w t j ≡ f (at j 0)
 
--- P holds of each module that the shape tells, and each f whose heads stand at tick t
-abbrev pub EachAt : Shape → ℕ → List ℕ → (Module → (State → ℕ) → Type 0) → Type 0
-EachAt s t w P = (m : Module) (numbers : List ℕ) (f : State → ℕ) → ModuleRule m → Told m s numbers → HeadsAt m f t w → P m f
-
 -- the heads from tick t to b are those of the largest demands in a to b
 abbrev pub HeadsFrom : Module → ℕ → ℕ → ℕ → List ℕ → Type 0
 HeadsFrom m a b t w = (u : ℕ) → t ≤ u → u ≤ b → HeadsAt m (value m (a - u) (b - u)) u w

@@ -1,4 +1,4 @@
 pub mod Bits
 pub mod Markings
-pub mod Walk
+pub mod Walking
 pub mod Unique

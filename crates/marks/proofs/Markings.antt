@@ -14,8 +14,9 @@ use lib.Bits.{bit_or}
 use borrow.Author.Tests.{eq-eqb}
 use Rattle.memory.specs.Map.{mark_row_numbers, mark_row_ticks, mark_numbers}
 use Rattle.layers.specs.declared.Shape.{Shape}
+use Rattle.layers.specs.Step.{period, lists, every}
 use Rattle.marks.specs.Marks.{marked}
-use Rattle.marks.specs.Marking.{Marking, Room, Stride, Laid, Follows, again, switched, Tick, Walkable, Walked}
+use Rattle.marks.specs.Marking.{Marking, Room, Stride, Follows, again, switched, Tick, Walkable, Walked}
 use Rattle.marks.proofs.Bits.{bit, set_on, set_other}
 
 -- One mark.
@@ -106,6 +107,14 @@ marking_before P n later A k t a b l o = ⊎_elim (λ z. z) (λ p. absurd (omega
 
 -- The strides of a switch.
 
+-- from each tick before t at which the mode k is marked, the strides of q in a stay of p ticks, up to the horizon h, are marked of the mode j
+abbrev pub Laid : ℕ → ℕ → ℕ → ℕ → ℕ → ℕ → List ℕ → Type 0
+Laid p q h t k j w = (e x : ℕ) → e < t → marked w k e ≡ true → x ≤ h → Stride p q e x → marked w j x ≡ true
+
+-- the walk to tick t has marked those of a switch that is listed
+pub switch_laid : (s : Shape) (h t k j : ℕ) (w : List ℕ) → k < s.modes → j < s.modes → lists s k j ≡ true → Walked s h t w → Laid (period s k) (every s k j) h t k j w
+switch_laid s h t k j w a b on W = λ e x l o i r. W.closed k e j x a l o (switched (record { target = b; listed = on; within = i; stride = r }))
+
 -- x is one of the first strides of q after t, those below i
 pub record Sofar (q t i x : ℕ) : Type 0 where
   pub count : ℕ
@@ -168,13 +177,13 @@ module _ (q t j : ℕ) where
 -- The walk to a tick.
 
 -- a mode leads to a mode, later and up to the horizon
-pub follows_later : (s : Shape) (h k t j x : ℕ) → Walkable s → k < s.modes → Follows s h k t j x → (j < s.modes) × (t < x) × (x ≤ h)
+pub follows_later : (s : Shape) (h k t j x : ℕ) → Walkable s h → k < s.modes → Follows s h k t j x → (j < s.modes) × (t < x) × (x ≤ h)
 follows_later s h k t j x ok i (again a b c) = (omega arith, omega (arith, ok.positive k i), c)
 follows_later s h k t j x ok i (switched o) = (o.target, omega (arith, o.stride.reached, one-le-mul o.stride.some (ok.switches k j i o.target o.listed)), o.within)
 
 -- marks at tick t and later leave the walk to it as it is
-pub walked_kept : (P : ℕ → ℕ → Type 0) {s : Shape} {h t : ℕ} {w w' : List ℕ} → Walkable s → ((k x : ℕ) → P k x → t ≤ x) → Marking P w w' → Walked s h t w → Walked s h t w'
-walked_kept P {s} {h} {t} {w} {w'} ok later A W = record { room = record { within = R.within; most = R.most; numbers = omega (arith, A.len, R.numbers) }; closed = closed }
+pub walked_kept : (P : ℕ → ℕ → Type 0) {s : Shape} {h t : ℕ} {w w' : List ℕ} → Walkable s h → ((k x : ℕ) → P k x → t ≤ x) → Marking P w w' → Walked s h t w → Walked s h t w'
+walked_kept P {s} {h} {t} {w} {w'} ok later A W = record { room = record { within = R.within; numbers = omega (arith, A.len, R.numbers) }; closed = closed }
   where
     R : Room h t w
     R = W.room
@@ -182,14 +191,14 @@ walked_kept P {s} {h} {t} {w} {w'} ok later A W = record { room = record { withi
     closed : (k e j x : ℕ) → k < s.modes → e < t → marked w' k e ≡ true → Follows s h k e j x → marked w' j x ≡ true
     closed k e j x i l o f =
         let (there, after, within) = follows_later s h k e j x ok i f in
-        A.old j x (omega (arith, ok.few)) (omega (arith, R.most)) (W.closed k e j x i l (marking_before P t later A k e (omega (arith, ok.few)) (omega (arith, R.within, R.most)) l o) f)
+        A.old j x (omega (arith, ok.few)) (omega (arith, ok.most)) (W.closed k e j x i l (marking_before P t later A k e (omega (arith, ok.few)) (omega (arith, R.within, ok.most)) l o) f)
 
 -- The modes at a tick, those below n.
 
-pub tick_later : (s : Shape) (h t : ℕ) → Walkable s → (n : ℕ) (w : List ℕ) → n ≤ s.modes → (j x : ℕ) → Tick s h t n w j x → t < x
+pub tick_later : (s : Shape) (h t : ℕ) → Walkable s h → (n : ℕ) (w : List ℕ) → n ≤ s.modes → (j x : ℕ) → Tick s h t n w j x → t < x
 tick_later s h t ok n w i j x a = (follows_later s h a.mode t j x ok (omega (arith, a.there)) a.follows).1
 
-module _ (s : Shape) (h t : ℕ) (ok : Walkable s) (in_row : t < mark_row_ticks) where
+module _ (s : Shape) (h t : ℕ) (ok : Walkable s h) (in_row : t < mark_row_ticks) where
   -- the marks at the tick itself are as they were
   pub tick_same : (n : ℕ) {w w' : List ℕ} → n ≤ s.modes → Marking (Tick s h t n w) w w' → (k : ℕ) → k < 8 → marked w' k t ≡ true → marked w k t ≡ true
   tick_same n {w} i A k l = marking_before _ (t + 1) (λ j x a. omega (arith, tick_later s h t ok n w i j x a)) A k t l in_row (omega arith)

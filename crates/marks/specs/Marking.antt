@@ -20,7 +20,6 @@ pub record Marking (P : ℕ → ℕ → Type 0) (w w' : List ℕ) : Type 0 where
 -- there is room for the marks, and t is a tick up to the horizon h
 pub record Room (h t : ℕ) (w : List ℕ) : Type 0 where
   pub within : t ≤ h
-  pub most : h ≤ 2000
   pub numbers : mark_numbers ≤ length w
 
 -- tick x is one of the multiples of q in the p ticks after t
@@ -29,10 +28,6 @@ pub record Stride (p q t x : ℕ) : Type 0 where
   pub some : 1 ≤ count
   pub fits : count * q ≤ p
   pub reached : x ≡ t + count * q
-
--- from each tick before t at which the mode k is marked, the strides of q in a stay of p ticks, up to the horizon h, are marked of the mode j
-abbrev pub Laid : ℕ → ℕ → ℕ → ℕ → ℕ → ℕ → List ℕ → Type 0
-Laid p q h t k j w = (e x : ℕ) → e < t → marked w k e ≡ true → x ≤ h → Stride p q e x → marked w j x ≡ true
 
 -- the switch of the mode k, begun at tick t, to the mode j, which is below n, is open at tick x, up to the horizon h
 pub record Opens (s : Shape) (h k t n j x : ℕ) : Type 0 where
@@ -53,8 +48,9 @@ pub record Tick (s : Shape) (h t n : ℕ) (w : List ℕ) (j x : ℕ) : Type 0 wh
   pub on : marked w mode t ≡ true
   pub follows : Follows s h mode t j x
 
--- what the walk needs of the numbers
-pub record Walkable (s : Shape) : Type 0 where
+-- what the walk needs of the numbers, and of the horizon h
+pub record Walkable (s : Shape) (h : ℕ) : Type 0 where
+  pub most : h ≤ 2000
   pub few : s.modes ≤ 8
   pub positive : (k : ℕ) → k < s.modes → 1 ≤ period s k
   pub switches : (k j : ℕ) → k < s.modes → j < s.modes → lists s k j ≡ true → 1 ≤ every s k j

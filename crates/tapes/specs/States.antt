@@ -1,11 +1,9 @@
 -- States by value, and what stepping one answers. Assumes nothing.
-use Rattle.std.specs.Prelude.{◌≡◌, ℕ, ◌<◌, Bool, List, Option, Some, None}
+use Rattle.std.specs.Prelude.{◌≡◌, ℕ, ◌<◌, Option, Some, None}
 use Rattle.model.specs.Sheet.{Module}
 use Rattle.model.specs.Run.{State as Moment, at, Next}
 use Rattle.layers.specs.declared.Shape.{Shape}
 use Rattle.layers.specs.Step.{period}
-use Rattle.following.specs.Follow.{attains}
-use Rattle.heads.specs.Heads.{EachAt}
 use Rattle.tapes.specs.declared.State.{State}
 
 -- the state that the value is
@@ -21,7 +19,3 @@ pub record Within (s : Shape) (x : State) : Type 0 where
 abbrev pub Answers : Module → State → ℕ → Option State → Type 0
 Answers m s to (Some t) = Next m (the s) (the t) × (t.mode ≡ to)
 Answers m s to None = (t : Moment) → Next m (the s) t → t.mode ≡ to → ⊥
-
--- b tells whether mode j opens one tick after x, and has the top at tick t
-pub record Attains (s : Shape) (t : ℕ) (work : List ℕ) (x : State) (top : ℕ) (b : Bool) (j : ℕ) : Type 0 where
-  pub each : EachAt s t work (λ m f. b ≡ attains m f (the x) top j)

@@ -2,18 +2,18 @@
 #![tactic(auto)]
 
 ghost use Rattle.std.specs.Prelude.{◌≡◌, true, ◌&&◌, List, ℕ, ◌+◌, ◌-◌, ◌%◌, ◌<◌, ◌≤◌, max, eqb, length, unwrap_or, IfSome};
-ghost use Rattle.model.specs.Lists.{when, max_of, max_below};
+ghost use Rattle.model.specs.Lists.{max_of, max_below};
 ghost use Rattle.model.specs.Limits.{work_numbers};
 ghost use Rattle.model.specs.Sheet.{Module};
 ghost use Rattle.model.specs.WellFormed.{ModuleRule};
-ghost use Rattle.model.specs.Run.{State as Moment, at, gain, Next};
+ghost use Rattle.model.specs.Run.{gain};
 ghost use Rattle.model.specs.Demand.{value, nexts};
 ghost use Rattle.model.specs.Tape.{chosen};
-ghost use Rattle.layers.specs.Layer.{Told, Tells, Each};
+ghost use Rattle.layers.specs.Layer.{Told, Tells};
 ghost use Rattle.following.specs.Follow as Follow;
 ghost use Rattle.following.specs.Follow.{opens};
-ghost use Rattle.heads.specs.Heads.{HeadsAt, EachAt, Filled, Kept};
-ghost use Rattle.tapes.specs.States.{the, Within, Answers, Attains};
+ghost use Rattle.heads.specs.Heads.{Filled, Kept};
+ghost use Rattle.tapes.specs.States.{the, Within, Answers};
 ghost use Rattle.tapes.specs.Taped.{Taped};
 
 use layers::Shape;
@@ -52,142 +52,159 @@ impl State {
     }
 }
 
-// Whether mode j can be begun one tick after s.
-fn begins(s: State, shape: Shape, j: usize) -> bool
-    requires { ((numbers : List ℕ) × Tells shape numbers) × (Within shape s) × (j < shape.modes) }
-    ensures { (m : Module) (numbers : List ℕ) → ModuleRule m → Told m shape numbers → result ≡ opens m (the s) j }
-{
-    s.step(shape, j).is_some_and(|n| n.time == 0)
-}
-
-// The head of mode j at tick t, where that mode can be begun one tick after s, which is at tick t - 1.
-fn offer(work: &[u32], t: usize, s: State, shape: Shape, j: usize) -> u32
-    requires { ((numbers : List ℕ) × Tells shape numbers) × (Within shape s) × (j < shape.modes) × (t ≤ 2000) × (work_numbers ≤ length work.now) }
-    ensures { (result < 65536) × (EachAt shape t work.now (λ m f. result ≡ when (opens m (the s) j) (f (at j 0)))) }
-{
-    if begins(s, shape, j) {
-        heads::head(work, t, j)
-    } else {
-        0
-    }
-}
-
-// The largest of these heads.
-fn offers(work: &[u32], t: usize, s: State, shape: Shape) -> u32
-    requires { ((numbers : List ℕ) × Tells shape numbers) × (Within shape s) × (t ≤ 2000) × (work_numbers ≤ length work.now) }
-    ensures { (result < 65536) × (EachAt shape t work.now (λ m f. result ≡ max_below (λ j. when (opens m (the s) j) (f (at j 0))) (length m.modes))) }
-{
-    let mut top = 0;
-    for j in 0..shape.modes {
-        top = offer(work, t, s, shape, j).max(top);
-    }
-    top
-}
-
-// Whether mode j can be begun one tick after s and its head is top.
-fn attains_at(work: &[u32], t: usize, s: State, top: u32, shape: Shape, j: usize) -> bool
-    requires { ((numbers : List ℕ) × Tells shape numbers) × (Within shape s) × (j < shape.modes) × (t ≤ 2000) × (work_numbers ≤ length work.now) }
-    ensures { Attains shape t work.now s top result j }
-{
-    begins(s, shape, j) && heads::head(work, t, j) == top
-}
-
-// The lowest such mode.
-fn lowest_head(work: &[u32], t: usize, s: State, top: u32, shape: Shape) -> Option<usize>
-    requires { ((numbers : List ℕ) × Tells shape numbers) × (Within shape s) × (t ≤ 2000) × (work_numbers ≤ length work.now) }
-    ensures { (IfSome result (λ j. j < shape.modes)) × (EachAt shape t work.now (λ m f. unwrap_or result shape.modes ≡ Follow.head m f (the s) top)) }
-{
-    (0..shape.modes).find(|j| attains_at(work, t, s, top, shape, *j))
-}
-
-// One tick of a walk along a stay: s gains, and goes on for v or to the best head at tick t, the next.
-fn turn(work: &[u32], t: usize, s: State, v: u32, l: usize, shape: Shape, numbers: &[u16]) -> u32
-    requires { (Tells shape numbers.now) × (Within shape s) × (t ≤ 2000) × (work_numbers ≤ length work.now) × (v < 65536) }
-    ensures { (m : Module) (f : Moment → ℕ) → ModuleRule m → Told m shape numbers.now → HeadsAt m f t work.now → result ≡ gain m (the s) 0 l + max v (max_below (λ j. when (opens m (the s) j) (f (at j 0))) (length m.modes)) }
-{
-    let best = v.max(offers(work, t, s, shape));
-    heads::gain_at(s.mode, s.time, l, shape, numbers) + best
-}
-
-// The value of s at tick t, by a walk along its stay from the end back.
-fn value_at(
-    work: &[u32],
+// A module, and the heads of its modes at each tick of the interval from a to b. That the numbers tell a module is no ghost field but asked
+// for beside it: the same numbers can tell two modules, and a ghost field takes only a fact that has one proof.
+#[derive(Clone, Copy)]
+struct Heads<'a> {
+    work: &'a [u32],
     a: usize,
     b: usize,
+    shape: &'a Shape,
+    numbers: &'a [u16],
+    ghost room: { work_numbers ≤ length work.now },
+    ghost short: { b ≤ 2000 },
+    ghost filled: { Filled shape.now numbers.now a b work.now },
+}
+
+// The ways on from the state s at tick t - 1 to tick t: by the stay, or to a mode that can be begun.
+#[derive(Clone, Copy)]
+struct Fork<'a> {
+    heads: Heads<'a>,
     t: usize,
     s: State,
-    shape: Shape,
-    numbers: &[u16],
-) -> u32
-    requires { (Tells shape numbers.now) × (Within shape s) × (t ≤ b) × (b ≤ 2000) × (work_numbers ≤ length work.now) × (Filled shape numbers.now a b work.now) }
-    ensures { Each shape numbers.now (λ m. result ≡ value m (a - t) (b - t) (the s)) }
-{
-    let rest = shape.periods[s.mode] as usize - s.time;
-    let mut v = 0;
-    for i in (0..rest.min(b - t)).rev() {
-        let l = heads::counted_at(a, b, t + i);
-        let state = State {
-            mode: s.mode,
-            time: s.time + i,
+    ghost inside: { t ≤ heads.b },
+    ghost within: { Within heads.shape.now s },
+}
+
+impl Fork<'_> {
+    ghost use Rattle.tapes.specs.Forks.{IsTold, AtFork, modes_of, ahead, head_of, offer_of, Attains};
+
+    // The head of mode j, where that mode can be begun.
+    fn head(&self, j: usize) -> Option<u32>
+        requires { (IsTold self.now) × (j < modes_of self.now) }
+        ensures { (IfSome result (λ h. h < 65536)) × (AtFork self.now (λ m. result ≡ head_of self.now m j)) }
+    {
+        let next = self.s.step(*self.heads.shape, j);
+        if next.is_some_and(|n| n.time == 0) {
+            Some(heads::head(self.heads.work, self.t, j))
+        } else {
+            None
+        }
+    }
+
+    // The largest of these heads.
+    fn offers(&self) -> u32
+        requires { IsTold self.now }
+        ensures { (result < 65536) × (AtFork self.now (λ m. result ≡ max_below (offer_of self.now m) (length m.modes))) }
+    {
+        let mut top = 0;
+        for j in 0..self.heads.shape.modes {
+            top = self.head(j).unwrap_or(0).max(top);
+        }
+        top
+    }
+
+    // Whether mode j can be begun and its head is top.
+    fn attains_at(&self, top: u32, j: usize) -> bool
+        requires { (IsTold self.now) × (j < modes_of self.now) }
+        ensures { Attains self.now top result j }
+    {
+        self.head(j) == Some(top)
+    }
+
+    // The lowest such mode.
+    fn lowest_head(&self, top: u32) -> Option<usize>
+        requires { IsTold self.now }
+        ensures { (IfSome result (λ j. j < modes_of self.now)) × (AtFork self.now (λ m. unwrap_or result (modes_of self.now) ≡ Follow.head m (ahead self.now m) (the self.now.s) top)) }
+    {
+        (0..self.heads.shape.modes).find(|j| self.attains_at(top, *j))
+    }
+
+    // One tick of a walk along a stay: s gains, and goes on for v or to the best head.
+    fn turn(&self, v: u32, l: usize) -> u32
+        requires { (IsTold self.now) × (v < 65536) }
+        ensures { AtFork self.now (λ m. result ≡ gain m (the self.now.s) 0 l + max v (max_below (offer_of self.now m) (length m.modes))) }
+    {
+        let best = v.max(self.offers());
+        heads::gain_at(
+            self.s.mode,
+            self.s.time,
+            l,
+            *self.heads.shape,
+            self.heads.numbers,
+        ) + best
+    }
+
+    // The mode of the next state on the tape, for top the largest value of a next state of s: the lowest mode that can be begun and has it,
+    // unless the stay has it too and is lower.
+    fn next_mode(&self, top: u32) -> usize
+        requires told { IsTold self.now }
+        requires each { AtFork self.now (λ m. top ≡ max_of (ahead self.now m) (nexts m (the self.now.s))) }
+        ensures { AtFork self.now (λ m. result ≡ (chosen (ahead self.now m) (the self.now.s) (nexts m (the self.now.s))).mode) }
+    {
+        let k = self.s.mode;
+        let period = self.heads.shape.periods[k] as usize;
+        let d = self.s.time + 1;
+        let Some(h) = self.lowest_head(top) else {
+            return k;
         };
-        v = turn(work, t + i + 1, state, v, l, shape, numbers);
+        if h <= k {
+            return h;
+        }
+        if period <= d {
+            return h;
+        }
+        if self.heads.value_at(self.t, State { mode: k, time: d }) == top {
+            return k;
+        }
+        h
     }
-    v
 }
 
-// The mode of the next state on the tape, at tick t, for top the largest value of a next state of s: the lowest mode that can be begun and
-// has it, unless the stay has it too and is lower.
-fn next_mode(
-    work: &[u32],
-    a: usize,
-    b: usize,
-    t: usize,
-    s: State,
-    top: u32,
-    shape: Shape,
-    numbers: &[u16],
-) -> usize
-    requires tells { (Tells shape numbers.now) × (Within shape s) × (t ≤ b) × (b ≤ 2000) × (work_numbers ≤ length work.now) × (Filled shape numbers.now a b work.now) }
-    requires each { Each shape numbers.now (λ m. top ≡ max_of (value m (a - t) (b - t)) (nexts m (the s))) }
-    ensures { Each shape numbers.now (λ m. result ≡ (chosen (value m (a - t) (b - t)) (the s) (nexts m (the s))).mode) }
-{
-    let k = s.mode;
-    let d = s.time + 1;
-    let Some(h) = lowest_head(work, t, s, top, shape) else {
-        return k;
-    };
-    if h <= k {
-        return h;
-    }
-    if shape.periods[k] as usize <= d {
-        return h;
-    }
-    if value_at(work, a, b, t, State { mode: k, time: d }, shape, numbers) == top {
-        return k;
-    }
-    h
-}
+impl Heads<'_> {
+    ghost use Rattle.tapes.specs.Forks.{HeadsTold, EachOf};
 
-// One tick on, to a mode that is open.
-fn go(s: State, shape: Shape, to: usize) -> State
-    requires { ((numbers : List ℕ) × Tells shape numbers) × (Within shape s) × (to < shape.modes) }
-    ensures { (m : Module) (numbers : List ℕ) → ModuleRule m → Told m shape numbers → (t : Moment) → Next m (the s) t → t.mode ≡ to → the result ≡ t }
-{
-    s.step(shape, to).unwrap_or(s)
-}
+    // The value of s at tick t, by a walk along its stay from the end back.
+    fn value_at(&self, t: usize, s: State) -> u32
+        requires { (HeadsTold self.now) × (Within self.now.shape.now s) × (t ≤ self.now.b) }
+        ensures { EachOf self.now (λ m. result ≡ value m (self.now.a - t) (self.now.b - t) (the s)) }
+    {
+        let rest = self.shape.periods[s.mode] as usize - s.time;
+        let mut v = 0;
+        for i in (0..rest.min(self.b - t)).rev() {
+            let l = heads::counted_at(self.a, self.b, t + i);
+            let fork = Fork {
+                heads: *self,
+                t: t + i + 1,
+                s: State {
+                    mode: s.mode,
+                    time: s.time + i,
+                },
+            };
+            v = fork.turn(v, l);
+        }
+        v
+    }
 
-// The tape, tick by tick: the mode of the state, and on to the next state on the tape, which has what the gain leaves of the value.
-fn follow(tape: &mut [u8], a: usize, b: usize, work: &[u32], shape: Shape, numbers: &[u16])
-    requires { (Tells shape numbers.now) × (b ≤ 2000) × (b ≤ length tape.old) × (work_numbers ≤ length work.now) × (Filled shape numbers.now a b work.now) }
-    ensures { Taped shape numbers.now a b tape.old tape.new }
-{
-    let mut s = State { mode: 0, time: 0 };
-    let mut v = heads::head(work, 0, 0);
-    for t in 0..b {
-        tape[t] = s.mode as u8;
-        v -= heads::gain_at(s.mode, s.time, heads::counted_at(a, b, t), shape, numbers);
-        let to = next_mode(work, a, b, t + 1, s, v, shape, numbers);
-        s = go(s, shape, to);
+    // The tape, tick by tick: the mode of the state, and on to the next state on the tape, which has what the gain leaves of the value.
+    fn follow(&self, tape: &mut [u8])
+        requires { (HeadsTold self.now) × (self.now.b ≤ length tape.old) }
+        ensures { Taped self.now.shape.now self.now.numbers.now self.now.a self.now.b tape.old tape.new }
+    {
+        let mut s = State { mode: 0, time: 0 };
+        let mut v = heads::head(self.work, 0, 0);
+        for t in 0..self.b {
+            tape[t] = s.mode as u8;
+            let l = heads::counted_at(self.a, self.b, t);
+            v -= heads::gain_at(s.mode, s.time, l, *self.shape, self.numbers);
+            let fork = Fork {
+                heads: *self,
+                t: t + 1,
+                s,
+            };
+            let to = fork.next_mode(v);
+            s = s.step(*self.shape, to).unwrap_or(s);
+        }
     }
 }
 
@@ -205,5 +222,12 @@ pub fn write_tape(
     ensures { (Taped shape numbers.now a b tape.old tape.new) × (Kept work.old work.new) }
 {
     heads::fill_heads(work, a, b, shape, numbers);
-    follow(tape, a, b, work, shape, numbers);
+    let filled = Heads {
+        work,
+        a,
+        b,
+        shape: &shape,
+        numbers,
+    };
+    filled.follow(tape);
 }

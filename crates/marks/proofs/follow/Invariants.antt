@@ -1,5 +1,0 @@
-use Rattle.marks.specs.Marking.{Kept, Followed}
-use Rattle.marks.proofs.follow.Given as goal
-
-abbrev pub invariant-loop-t : goal.invariant-loop-t
-invariant-loop-t l = Kept l.initial.bits l.bits × Followed l.shape l.horizon l.t l.bits

@@ -1,5 +1,0 @@
-use Rattle.marks.specs.Marking.{Marking, Tick}
-use Rattle.marks.proofs.mark_tick.Given as goal
-
-abbrev pub invariant-loop-k : goal.invariant-loop-k
-invariant-loop-k l = Marking (Tick l.shape l.horizon l.t l.k l.initial.bits) l.initial.bits l.bits
