@@ -8,12 +8,11 @@ ghost use Rattle.place.specs.Held.{sheet_of};
 ghost use Rattle.layers.specs.Step.{look};
 ghost use Rattle.layers.specs.Layer.{Tells, Each, IsLayer};
 ghost use Rattle.sums.specs.Sums.{Fits};
-ghost use Rattle.memory.specs.Map.{mark_numbers};
 ghost use Rattle.figures.specs.Offers.{Below, ShapeOffer};
 ghost use Rattle.bounds.specs.Tops.{range_ends, Topped};
 ghost use Rattle.bounds.specs.Bounds.{Progress, Progressed, NextAdded, BoundsAdded, ModuleAdded, SumsBounded};
 
-use figures::{Offers, Takes, any_mark, offer_module};
+use figures::{ModuleLayer, Offers, Takes, any_mark};
 use layers::Shape;
 use memory::{CELLS_FROM, LAYER_FROM, MARKS_FROM};
 use table::Table;
@@ -51,21 +50,13 @@ impl Takes for EndRange {
     }
 }
 
-// The bound for l - 1 ticks becomes one for l, by the layer for l ticks and the marks of the module.
-fn top_module(
-    best: u32,
-    range: &EndRange,
-    l: usize,
-    layer: &[u32],
-    bits: &[u32],
-    shape: Shape,
-    numbers: &[u16],
-) -> u32
-    requires { (l ≤ 2000) × (mark_numbers ≤ length bits.now) × (IsLayer shape numbers.now l layer.now) }
-    ensures { Topped (Below (ShapeOffer shape numbers.now layer.now bits.now range.now.lo l) shape.modes) range.now.width best result }
+// The bound for l - 1 ticks becomes one for l, by what the module has for l ticks.
+fn top_module(best: u32, range: &EndRange, module: &ModuleLayer) -> u32
+    requires { IsLayer module.now.shape.now module.now.numbers.now module.now.l module.now.layer.now }
+    ensures { Topped (Below (ShapeOffer module.now.shape.now module.now.numbers.now module.now.layer.now module.now.bits.now range.now.lo module.now.l) module.now.shape.now.modes) range.now.width best result }
 {
     let mut row = [best];
-    offer_module(range, &mut row, l, layer, bits, &shape, numbers);
+    module.offer(range, &mut row);
     row[0]
 }
 
@@ -82,15 +73,14 @@ fn next_top(
     ensures { Progressed shape numbers.now range.now.lo range.now.width (l + 1) result work.old work.new }
 {
     layers::advance(&mut work[LAYER_FROM..MARKS_FROM], l, shape, numbers);
-    top_module(
-        best,
-        range,
-        l + 1,
-        &work[LAYER_FROM..MARKS_FROM],
-        &work[MARKS_FROM..CELLS_FROM],
-        shape,
+    let module = ModuleLayer {
+        layer: &work[LAYER_FROM..MARKS_FROM],
+        bits: &work[MARKS_FROM..CELLS_FROM],
+        shape: &shape,
         numbers,
-    )
+        l: l + 1,
+    };
+    top_module(best, range, &module)
 }
 
 // The bound for l + 1 ticks is added to the number at that length.

@@ -12,7 +12,7 @@ ghost use Rattle.quick.specs.Quick.{answer_of as tested};
 ghost use Rattle.exact.specs.Exact.{answer_of as witnessed, ExactTested};
 ghost use Rattle.report.specs.Report.{answer_of as reported, Reported};
 ghost use Rattle.checker.specs.Numbers.{refused_number, counts_of, accepted_number, judged_number, figure_number, quick_number, exact_number, exact_of};
-ghost use Rattle.checker.specs.Calls.{Numbered, Worked, Placed, Fits, Held};
+ghost use Rattle.checker.specs.Calls.{Numbered, Worked, Placed, Fits};
 
 use exact::Interval;
 use judge::{Judged, Refusal};
@@ -36,15 +36,12 @@ fn accepted(judged: Judged) -> u64
     256 * (judged.modules as u64 + 256 * middle)
 }
 
-// The number of a demand.
-fn demand_number(answer: Result<u32, Refusal>) -> u64
+// The number of a demand, or of how many bytes are written.
+fn figure_number(answer: Result<u32, Refusal>) -> u64
     requires { Placed (demanded answer) }
     ensures { result ≡ figure_number (demanded answer) }
 {
-    match answer {
-        Ok(demand) => 256 * demand as u64,
-        Err(refusal) => refused(refusal),
-    }
+    answer.map_or_else(refused, |figure| 256 * figure as u64)
 }
 
 // The number of what the quick test says.
@@ -52,11 +49,12 @@ fn quick_number(answer: Result<Option<Excess>, Refusal>) -> u64
     requires { Placed (tested answer) }
     ensures { result ≡ quick_number (tested answer) }
 {
-    match answer {
-        Ok(None) => 0,
-        Ok(Some(excess)) => 255 + 256 * (excess.length as u64 + 65536 * excess.demand as u64),
-        Err(refusal) => refused(refusal),
-    }
+    answer.map_or_else(refused, |over| {
+        over.map_or(0, |excess| {
+            let figures = excess.length as u64 + 65536 * excess.demand as u64;
+            255 + 256 * figures
+        })
+    })
 }
 
 // The number of what the exact test says, whatever memory its tapes lie in.
@@ -64,42 +62,26 @@ fn exact_number(answer: Result<Option<Interval>, Refusal>) -> u64
     requires { Fits answer }
     ensures { (n : ℕ) (memory : List ℕ) → result ≡ exact_number (witnessed n memory answer) }
 {
-    match answer {
-        Ok(None) => 0,
-        Ok(Some(x)) => {
+    answer.map_or_else(refused, |over| {
+        over.map_or(0, |x| {
             let upper = x.end as u64 + 65536 * x.demand as u64;
             255 + 256 * (x.start as u64 + 65536 * upper)
-        }
-        Err(refusal) => refused(refusal),
-    }
-}
-
-// The number of a report: how many bytes are written. Not one with `demand_number`: a `usize` does not convert into a `u64`, and a `map` at each call is no plainer.
-fn report_number(answer: Result<usize, Refusal>) -> u64
-    requires { Held (reported answer) }
-    ensures { result ≡ figure_number (reported answer) }
-{
-    match answer {
-        Ok(count) => 256 * count as u64,
-        Err(refusal) => refused(refusal),
-    }
+        })
+    })
 }
 
 /// The judgement of a sheet: where it is accepted, its modules, modes, tasks, switches and horizon, in 8, 8, 16, 8 and 16 bits.
 pub fn tyvasuri_judge(sheet: &[u8]) -> u64
     ensures { result ≡ judged_number (judgement sheet.now) }
 {
-    match judge::judge(sheet) {
-        Ok(judged) => accepted(judged),
-        Err(refusal) => refused(refusal),
-    }
+    judge::judge(sheet).map_or_else(refused, accepted)
 }
 
 /// The demand of a mode between two mode times.
 pub fn tyvasuri_mode_demand(sheet: &[u8], module: usize, mode: usize, from: usize, to: usize) -> u64
     ensures { Numbered figure_number (ModeAnswer sheet.now «module» mode from to) result }
 {
-    demand_number(demand::mode_demand(sheet, module, mode, from, to))
+    figure_number(demand::mode_demand(sheet, module, mode, from, to))
 }
 
 /// The largest demand in so many ticks over all runs from the mode time of the mode.
@@ -113,14 +95,14 @@ pub fn tyvasuri_state_demand(
 ) -> u64
     ensures { Numbered figure_number (Worked (StateAnswer sheet.now «module» mode time length) work.old work.new) result }
 {
-    demand_number(states::state_demand(sheet, module, mode, time, length, work))
+    figure_number(states::state_demand(sheet, module, mode, time, length, work))
 }
 
 /// The largest demand in so many ticks over all runs of the module, from any state of a mode that is reached from mode 0.
 pub fn tyvasuri_module_demand(sheet: &[u8], module: usize, length: usize, work: &mut [u32]) -> u64
     ensures { Numbered figure_number (Worked (ModuleAnswer sheet.now «module» length) work.old work.new) result }
 {
-    demand_number(states::module_demand(sheet, module, length, work))
+    figure_number(states::module_demand(sheet, module, length, work))
 }
 
 /// The quick test: where it is over, the smallest such length in 16 bits, and its demand.
@@ -141,5 +123,6 @@ pub fn tyvasuri_exact_test(sheet: &[u8], work: &mut [u32], tape: &mut [u8]) -> u
 pub fn tyvasuri_report(sheet: &[u8], work: &mut [u32], tape: &mut [u8], out: &mut [u8]) -> u64
     ensures { Numbered (λ x. figure_number (reported x)) (Reported sheet.now work.old work.new tape.old tape.new out.old out.new) result }
 {
-    report_number(report::write_report(sheet, work, tape, out))
+    // no report is longer than the output memory that it asks for
+    figure_number(report::write_report(sheet, work, tape, out).map(|count| count as u32))
 }

@@ -1,6 +1,6 @@
 -- What the tests before the exact test say of a call, and that the verdict and the tapes that it then has are its answer. Assumes nothing.
 use mathlib.Core.Path.{◌≡◌, sym, ◌∙◌, ap, subst}
-use mathlib.Core.Bool.{true, ◌&&◌, and-eq-true_iff}
+use mathlib.Core.Bool.{true, and-eq-true_iff}
 use mathlib.Core.List.{List}
 use Prim.Native.Nat.{ℕ, ◌*◌, ◌≤◌}
 use native.Mathlib.Nat.{mul-le-mul_left}
@@ -13,7 +13,6 @@ use Rattle.model.specs.Verdict as Verdict
 use Rattle.model.proofs.Verdicts.{exact_is}
 use Rattle.format.specs.Judgement.{sheet_in}
 use Rattle.format.proofs.RoundTrip.{accepted_well_formed}
-use Rattle.judge.proofs.JudgedLaws.{AcceptedWith}
 use Rattle.query.specs.Answer.{given}
 use Rattle.query.specs.Query.{Witnessed, exact_terms, witnessed, ExactAnswer}
 use Rattle.query.specs.Memory.{Stays}
@@ -26,10 +25,6 @@ use Rattle.judge.specs.declared.Judged.{Judged}
 use Rattle.cells.specs.declared.Interval.{Interval}
 use Rattle.cells.specs.Cells.{found_of}
 use Rattle.exact.specs.Exact.{ExactTested}
-
--- The tests of an accepted sheet: what is tested is what the terms say.
-pub enough_is : {bytes : List ℕ} {a : Judged} (work tape : ℕ) → AcceptedWith bytes a → leb work_numbers work && leb (a.modules * a.horizon) tape ≡ (exact_terms work tape).enough (sheet_in bytes)
-enough_is work tape told = rw (told.modules_are, told.horizon_is)
 
 -- What a sound call has.
 module _ (bytes : List ℕ) (work tape : ℕ) {a : Judged} (met : Sound (exact_terms work tape) bytes a) where

@@ -3,11 +3,11 @@
 
 ghost use Rattle.std.specs.Prelude.{Ok, ◌≡◌, ◌&&◌, ◌*◌, ◌≤◌, leb, length as count};
 ghost use Rattle.model.specs.Limits.{work_numbers};
-ghost use Rattle.query.specs.Query.{Witnessed, exact_terms};
-ghost use Rattle.quick.specs.Asking.{Sound, Asks};
+ghost use Rattle.query.specs.Query.{exact_terms};
+ghost use Rattle.quick.specs.Asking.{Sound};
 ghost use Rattle.exact.specs.Exact.{ExactTested};
 
-use judge::{Fault, Judged, Refusal, Sheet};
+use judge::{Judged, Refusal, Sheet};
 use place::AcceptedSheet;
 use table::Table;
 
@@ -20,17 +20,6 @@ pub fn is_enough(modules: usize, horizon: usize, work: usize, tape: usize) -> bo
     ensures { result ≡ leb work_numbers work && leb (modules * horizon) tape }
 {
     Sheet::WORK_NUMBERS <= work && modules * horizon <= tape
-}
-
-// Whether the exact test is refused, where so many numbers and so many bytes are lent; else the sheet's counts and its horizon.
-fn exact_asked(sheet: &[u8], work: usize, tape: usize) -> Result<Judged, Refusal>
-    ensures { Asks Witnessed (exact_terms work tape) sheet.now result }
-{
-    let judged = judge::judge(sheet)?;
-    if !is_enough(judged.modules as usize, judged.horizon as usize, work, tape) {
-        return Err(Fault::MemoryTooSmall.at(0));
-    }
-    Ok(judged)
 }
 
 // The exact test, where nothing refuses it.
@@ -60,6 +49,13 @@ pub fn exact_test(
 ) -> Result<Option<Interval>, Refusal>
     ensures { ExactTested sheet.now work.old work.new tape.old tape.new result }
 {
-    let judged = exact_asked(sheet, work.len(), tape.len())?;
+    let judged = quick::asked(sheet, |judged| {
+        is_enough(
+            usize::from(judged.modules),
+            usize::from(judged.horizon),
+            work.len(),
+            tape.len(),
+        )
+    })?;
     Ok(exact_given(sheet, work, tape, judged))
 }

@@ -22,7 +22,7 @@ any_mark_unique true false h h' = let (t, low, high, on) = h.some refl in absurd
 any_mark_unique false true h h' = let (t, low, high, on) = h'.some refl in absurd (not_both on (h.none refl t low high))
 any_mark_unique false false h h' = refl
 
--- offer_module
+-- ModuleLayer::offer
 pub took_unique : (ends : Ends) (P : ℕ → ℕ → Type 0) {w u v : List ℕ} → Took ends P w u → Took ends P w v → u ≡ v
 took_unique ends P {w} {u} {v} h h' = ext_get_or 0 u v (h.len ∙ sym h'.len) (λ j i. le_antisymm (most h h' j (omega (arith, i, h.len))) (most h' h j (omega (arith, i, h.len))))
   where

@@ -119,50 +119,47 @@ impl Offers<'_> {
     }
 }
 
-// Mode k of the shape, whose part of the layer begins at from. Where that ends is handed back.
-fn offer_mode<T: Takes>(
-    to: &T,
-    row: &mut [u32],
-    l: usize,
-    layer: &[u32],
-    bits: &[u32],
-    shape: &Shape,
-    numbers: &[u16],
-    k: usize,
-    from: usize,
-) -> usize
-    requires { (k < 8) × (mark_numbers ≤ length bits.now) × (from ≡ total shape.now.periods k) × (from + period shape.now k ≤ length layer.now) × (ModeReady shape.now numbers.now k) × (l ≤ 2000) × ((T.ends to.now).row ≤ length row.old) }
-    ensures { (result ≡ total shape.now.periods (k + 1)) × (Took (T.ends to.now) (ShapeOffer shape.now numbers.now layer.now bits.now (T.ends to.now).lo l k) row.old row.new) }
-{
-    let end = from + shape.periods[k] as usize;
-    let tasks = shape.starts[k] as usize..shape.starts[k + 1] as usize;
-    let offers = Offers {
-        part: &layer[from..end],
-        tasks: &numbers[tasks],
-        bits,
-        k,
-        l,
-    };
-    offers.walk(to, row);
-    end
+// What a module has for one length l: its layer for l ticks, its marks, and what tells it. That these are a module's is no ghost field but asked
+// for beside it: the same numbers can tell two modules, and a ghost field takes only a fact that has one proof.
+#[derive(Clone, Copy)]
+pub struct ModuleLayer<'a> {
+    pub layer: &'a [u32],
+    pub bits: &'a [u32],
+    pub shape: &'a Shape,
+    pub numbers: &'a [u16],
+    pub l: usize,
+    pub ghost rows: { mark_numbers ≤ length bits.now },
+    pub ghost short: { l ≤ 2000 },
 }
 
-// All modes of a module, by its layer for l ticks and its marks.
-pub fn offer_module<T: Takes>(
-    to: &T,
-    row: &mut [u32],
-    l: usize,
-    layer: &[u32],
-    bits: &[u32],
-    shape: &Shape,
-    numbers: &[u16],
-)
-    requires { (l ≤ 2000) × (mark_numbers ≤ length bits.now) × (IsLayer shape.now numbers.now l layer.now) × ((T.ends to.now).row ≤ length row.old) }
-    ensures { Took (T.ends to.now) (Below (ShapeOffer shape.now numbers.now layer.now bits.now (T.ends to.now).lo l) shape.now.modes) row.old row.new }
-{
-    let mut from = 0;
-    for k in 0..shape.modes {
-        from = offer_mode(to, row, l, layer, bits, shape, numbers, k, from);
+impl ModuleLayer<'_> {
+    // Mode k, whose part of the layer begins at from. Where that ends is handed back.
+    fn offer_mode<T: Takes>(&self, to: &T, row: &mut [u32], k: usize, from: usize) -> usize
+        requires { (k < 8) × (from ≡ total self.now.shape.now.periods k) × (from + period self.now.shape.now k ≤ length self.now.layer.now) × (ModeReady self.now.shape.now self.now.numbers.now k) × ((T.ends to.now).row ≤ length row.old) }
+        ensures { (result ≡ total self.now.shape.now.periods (k + 1)) × (Took (T.ends to.now) (ShapeOffer self.now.shape.now self.now.numbers.now self.now.layer.now self.now.bits.now (T.ends to.now).lo self.now.l k) row.old row.new) }
+    {
+        let end = from + self.shape.periods[k] as usize;
+        let tasks = self.shape.starts[k] as usize..self.shape.starts[k + 1] as usize;
+        let offers = Offers {
+            part: &self.layer[from..end],
+            tasks: &self.numbers[tasks],
+            bits: self.bits,
+            k,
+            l: self.l,
+        };
+        offers.walk(to, row);
+        end
+    }
+
+    // All modes of the module.
+    pub fn offer<T: Takes>(&self, to: &T, row: &mut [u32])
+        requires { (IsLayer self.now.shape.now self.now.numbers.now self.now.l self.now.layer.now) × ((T.ends to.now).row ≤ length row.old) }
+        ensures { Took (T.ends to.now) (Below (ShapeOffer self.now.shape.now self.now.numbers.now self.now.layer.now self.now.bits.now (T.ends to.now).lo self.now.l) self.now.shape.now.modes) row.old row.new }
+    {
+        let mut from = 0;
+        for k in 0..self.shape.modes {
+            from = self.offer_mode(to, row, k, from);
+        }
     }
 }
 
@@ -218,7 +215,14 @@ pub fn raise_figures(
         lo,
         width: fig.len(),
     };
-    offer_module(&tile, fig, l, layer, bits, &shape, numbers);
+    let module = ModuleLayer {
+        layer,
+        bits,
+        shape: &shape,
+        numbers,
+        l,
+    };
+    module.offer(&tile, fig);
 }
 
 // Each figure is added to the cell at its place.

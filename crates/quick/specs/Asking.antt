@@ -1,11 +1,12 @@
 -- What the tests before an answer say of a call: it is refused, or its terms are met. Assumes nothing.
-use Rattle.std.specs.Prelude.{◌≡◌, List, ℕ, length, Result, Ok, Err}
+use Rattle.std.specs.Prelude.{◌≡◌, ◌⊎◌, Bool, true, false, List, ℕ, length, Result, Ok, Err}
 use Rattle.model.specs.Sheet.{counts}
-use Rattle.format.specs.Judgement.{sheet_in}
+use Rattle.format.specs.Judgement.{judgement, sheet_in}
+use Rattle.judge.specs.declared.Fault.TheVariants.{MemoryTooSmall}
 use Rattle.judge.specs.declared.Judged.{Judged}
 use Rattle.judge.specs.declared.Refusal.{Refusal}
-use Rattle.judge.specs.Told.{number_of}
-use Rattle.query.specs.Answer.{Terms, Meets, RefusedWith}
+use Rattle.judge.specs.Told.{refusal, told, tells_of}
+use Rattle.query.specs.Answer.{Terms, Meets}
 
 -- the terms are met by a sheet of these counts and this horizon
 pub record Sound (t : Terms) (bytes : List ℕ) (a : Judged) : Type 0 where
@@ -16,7 +17,7 @@ pub record Sound (t : Terms) (bytes : List ℕ) (a : Judged) : Type 0 where
   pub switches_are : a.switches ≡ (counts (sheet_in bytes)).switches
   pub horizon_is : a.horizon ≡ (sheet_in bytes).horizon
 
--- whichever figure of the kind A is asked for
-abbrev pub Asks : Type 0 → Terms → List ℕ → Result Judged Refusal → Type 0
-Asks A t bytes (Err r) = RefusedWith A t bytes (number_of r.fault) r.place
-Asks A t bytes (Ok a) = Sound t bytes a
+-- what is told of the sheet, where the lent memory is enough, as P says of the counts and the horizon; the sheet's fault goes before the memory
+abbrev pub AskedBy : (Judged → Bool → Type 0) → List ℕ → Result Judged Refusal → Type 0
+AskedBy P bytes (Err r) = (told (Err r) ≡ tells_of (judgement bytes)) ⊎ ((a : Judged) × (told (Ok a) ≡ tells_of (judgement bytes)) × P a false × (r ≡ refusal MemoryTooSmall 0))
+AskedBy P bytes (Ok a) = (told (Ok a) ≡ tells_of (judgement bytes)) × P a true

@@ -3,13 +3,13 @@
 
 ghost use Rattle.std.specs.Prelude.{Ok, ◌≡◌, ◌<◌, ◌≤◌, length as count};
 ghost use Rattle.model.specs.Limits.{work_numbers};
-ghost use Rattle.model.specs.Verdict.{Quick};
 ghost use Rattle.place.specs.Held.{sheet_of};
 ghost use Rattle.query.specs.Query.{quick_terms};
 ghost use Rattle.sums.specs.Sums.{Fits};
 ghost use Rattle.quick.specs.Quick.{QuickTested};
 ghost use Rattle.quick.specs.Sums.{ModuleAdded, SumsOf, Found};
-ghost use Rattle.quick.specs.Asking.{Asks, Sound};
+ghost use Rattle.judge.specs.declared.Judged.{Judged};
+ghost use Rattle.quick.specs.Asking.{AskedBy, Sound};
 
 use judge::{Fault, Judged, Refusal, Sheet};
 use place::AcceptedSheet;
@@ -57,25 +57,28 @@ fn first_over(table: &Table, work: &mut [u32], n: usize) -> Option<Excess>
 // The first length up to the horizon whose sum exceeds it: few lengths first, so that an early over is found early.
 fn first_of_all(table: &Table, work: &mut [u32]) -> Option<Excess>
     requires { work_numbers ≤ count work.old }
-    ensures { Found (sheet_of table.now.sheet) table.now.horizon result work.old work.new }
+    ensures { Found (sheet_of table.now.sheet) (sheet_of table.now.sheet).horizon result work.old work.new }
 {
+    let horizon = table.sheet.horizon();
     // no range counts these lengths: each is eight times the one before
     let mut n = FEW;
-    while n < table.horizon {
+    while n < horizon {
         if let Some(excess) = first_over(table, work, n) {
             return Some(excess);
         }
         n *= 8;
     }
-    first_over(table, work, table.horizon)
+    first_over(table, work, horizon)
 }
 
-// Whether the quick test is refused, where so many numbers are lent; else the sheet's counts and its horizon.
-fn quick_asked(sheet: &[u8], work: usize) -> Result<Judged, Refusal>
-    ensures { Asks Quick (quick_terms work) sheet.now result }
+/// The sheet's counts and its horizon, where nothing refuses a call; `enough` says of them whether the lent memory is enough.
+/// A sheet's fault goes before too little memory (10).
+pub fn asked<F: Fn(Judged) -> bool>(sheet: &[u8], enough: F) -> Result<Judged, Refusal>
+    requires { (told : Judged) → (told.modules ≤ 8) × (told.horizon ≤ 2000) → F.pre enough told }
+    ensures { AskedBy (F.post enough) sheet.now result }
 {
     let judged = judge::judge(sheet)?;
-    if work < Sheet::WORK_NUMBERS {
+    if !enough(judged) {
         return Err(Fault::MemoryTooSmall.at(0));
     }
     Ok(judged)
@@ -96,6 +99,6 @@ fn quick_given(sheet: &[u8], work: &mut [u32], judged: Judged) -> Option<Excess>
 pub fn quick_test(sheet: &[u8], work: &mut [u32]) -> Result<Option<Excess>, Refusal>
     ensures { QuickTested sheet.now work.old work.new result }
 {
-    let judged = quick_asked(sheet, work.len())?;
+    let judged = asked(sheet, |_| Sheet::WORK_NUMBERS <= work.len())?;
     Ok(quick_given(sheet, work, judged))
 }

@@ -1,6 +1,6 @@
 -- What the tests before a report say of a call, and that the lines or the refusal that it then has are its answer. Assumes nothing.
 use mathlib.Core.Path.{◌≡◌, refl, ◌∙◌, ap}
-use mathlib.Core.Bool.{true, ◌&&◌, and-eq-true_iff}
+use mathlib.Core.Bool.{true, and-eq-true_iff}
 use mathlib.Core.List.{List, [], ◌++◌, append-nil}
 use Prim.Native.Nat.{ℕ, ◌*◌}
 use native.Mathlib.Omega.{arith}
@@ -12,7 +12,6 @@ use Rattle.model.specs.Verdict as Verdict
 use Rattle.model.proofs.Tapes.{tapes_are}
 use Rattle.format.specs.Judgement.{sheet_in}
 use Rattle.format.proofs.RoundTrip.{accepted_well_formed}
-use Rattle.judge.proofs.JudgedLaws.{AcceptedWith}
 use Rattle.query.specs.Answer.{Answer, refused, given, Meets}
 use Rattle.query.specs.Query.{Witnessed, quick_terms, exact_terms, tapes_for, witnessed}
 use Rattle.query.specs.Memory.{Stays}
@@ -35,11 +34,6 @@ use Rattle.exact.proofs.Giving.{over_within}
 use Rattle.report.specs.Report.{out_bytes, report_terms, Lines, Reported}
 use Rattle.report.specs.Parts.{head_of, said, witnessed_lines, Printable, ExactWritten}
 use Rattle.report.proofs.Runs.{tapes_digits}
-
--- The tests of an accepted sheet: what is tested is what the terms say.
-pub enough_is : {bytes : List ℕ} {a : Judged} (work tape out : ℕ) → AcceptedWith bytes a
-    → leb work_numbers work && leb (a.modules * a.horizon) tape && leb out_bytes out ≡ (report_terms work tape out).enough (sheet_in bytes)
-enough_is work tape out told = rw (told.modules_are, told.horizon_is)
 
 -- What a call has whose terms are met.
 module _ (bytes : List ℕ) (work tape out : ℕ) (met : Meets (report_terms work tape out) bytes) where

@@ -1,7 +1,7 @@
 // The report on a sheet: the lines that the program prints, in the caller's memory.
 #![tactic(auto)]
 
-ghost use Rattle.std.specs.Prelude.{ℕ, Ok, ◌≡◌, ◌&&◌, ◌*◌, ◌≤◌, leb, length as count};
+ghost use Rattle.std.specs.Prelude.{Ok, ◌≡◌, ◌&&◌, ◌*◌, ◌≤◌, leb, length as count};
 ghost use Rattle.model.specs.Limits.{work_numbers};
 ghost use Rattle.model.specs.Verdict.{quick as quick_verdict};
 ghost use Rattle.format.specs.Judgement.{sheet_in};
@@ -11,13 +11,13 @@ ghost use Rattle.query.specs.Memory.{Stays, tapes_in};
 ghost use Rattle.lines.specs.Lines.{quick_line, run_lines};
 ghost use Rattle.writing.specs.Writing.{Put};
 ghost use Rattle.sums.specs.Sums.{quick_of};
-ghost use Rattle.quick.specs.Asking.{Sound, Asks};
+ghost use Rattle.quick.specs.Asking.{Sound};
 ghost use Rattle.exact.specs.Exact.{answer_of as exact_answer};
 ghost use Rattle.report.specs.Report.{out_bytes, report_terms, Reported};
 ghost use Rattle.report.specs.Parts.{head_of, said, witnessed_lines, TapesThere, Printable, ExactWritten};
 
 use exact::Interval;
-use judge::{Fault, Judged, Refusal};
+use judge::{Judged, Refusal};
 use quick::Excess;
 
 // The bytes that hold any report.
@@ -31,17 +31,6 @@ fn enough(judged: Judged, work: usize, tape: usize, out: usize) -> bool
     let modules = judged.modules as usize;
     let horizon = judged.horizon as usize;
     exact::is_enough(modules, horizon, work, tape) && OUT_BYTES <= out
-}
-
-// Whether the report is refused, where so many numbers and so many bytes are lent; else the sheet's counts and its horizon.
-fn report_asked(sheet: &[u8], work: usize, tape: usize, out: usize) -> Result<Judged, Refusal>
-    ensures { Asks ℕ (report_terms work tape out) sheet.now result }
-{
-    let judged = judge::judge(sheet)?;
-    if !enough(judged, work, tape, out) {
-        return Err(Fault::MemoryTooSmall.at(0));
-    }
-    Ok(judged)
 }
 
 // The line of the sheet. Here and below memory and place are two parameters, as `writing` promises its lines.
@@ -159,6 +148,8 @@ pub fn write_report(
 ) -> Result<usize, Refusal>
     ensures { Reported sheet.now work.old work.new tape.old tape.new out.old out.new result }
 {
-    let judged = report_asked(sheet, work.len(), tape.len(), out.len())?;
+    let judged = quick::asked(sheet, |judged| {
+        enough(judged, work.len(), tape.len(), out.len())
+    })?;
     Ok(report_given(sheet, work, tape, out, judged))
 }

@@ -32,7 +32,6 @@ pub record Bounded (s : Sheet) (lo range : ℕ) (w w' : List ℕ) : Type 0 where
 
 -- the bounds of a range of r ends, at most so many
 pub record Narrowed (s : Sheet) (lo range r : ℕ) (w w' : List ℕ) : Type 0 where
-  pub some : 1 ≤ r
   pub most : r ≤ range
   pub bounded : Bounded s lo r w w'
 

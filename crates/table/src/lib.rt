@@ -23,7 +23,7 @@ pub struct Tasks {
 }
 
 /// The row of a module: the periods of its modes, 0 past them; and at 8 * j + t of the switch of the mode j to the mode t its period and whether there is one,
-/// 0 and false where there is none.
+/// 0 and false where there is none. Two rows and no row of options: `RowOf` and the engine's definitions read one each.
 #[derive(Clone, Copy)]
 pub struct ModuleRow {
     pub periods: [u16; 8],
@@ -31,15 +31,13 @@ pub struct ModuleRow {
     pub listed: [bool; 64],
 }
 
-/// An accepted sheet with what the tests look up in it: how many modules it has, its horizon, and the row of each module.
+/// An accepted sheet with what the tests look up in it: how many modules it has, and the row of each.
 #[derive(Clone, Copy)]
 pub struct Table<'a> {
     pub sheet: AcceptedSheet<'a>,
     pub modules: usize,
-    pub horizon: usize,
     pub rows: [ModuleRow; 8],
     pub ghost modules_are: { modules ≡ length (sheet_of sheet).modules },
-    pub ghost horizon_is: { horizon ≡ (sheet_of sheet).horizon },
     pub ghost rows_are: { RowsOf (sheet_of sheet) rows },
 }
 
@@ -223,12 +221,10 @@ impl<'a> Table<'a> {
         ensures sheet { result.sheet.bytes.now ≡ sheet.entry.bytes.now }
         ensures modules { result.modules ≡ modules }
     {
-        let horizon = sheet.horizon();
         let rows = module_rows(&sheet);
         Table {
             sheet,
             modules,
-            horizon,
             rows,
         }
     }

@@ -47,7 +47,17 @@ impl Line<'_> {
     }
 }
 
-// A refusal, with its number and place.
+// A line that is always the same.
+fn fixed_line(out: &mut [u8], at: usize, bytes: &[u8]) -> usize
+    requires { at + count bytes.now ≤ count out.old }
+    ensures { Put at result bytes.now out.old out.new }
+{
+    let mut line = Line { out, at };
+    line.put(bytes);
+    line.at
+}
+
+// A refusal, with its number and place. The number stays a u8: the line of any number is promised, not of the faults alone.
 #[tactic(auto, using(crate::proofs::Lengths::refused_count))]
 pub fn refused_line(out: &mut [u8], at: usize, number: u8, place: usize) -> usize
     requires { at + count (refused_line number place) ≤ count out.old }
@@ -84,15 +94,13 @@ pub fn sheet_line(
     line.at
 }
 
-// The quick test says clear. It and `exact_clear_line` stay two: each promises a line of its own.
+// The quick test says clear.
 #[tactic(auto, unfolding(lines::specs::Lines::quick_line))]
 pub fn quick_clear_line(out: &mut [u8], at: usize) -> usize
     requires { at + count (quick_line Quick.clear) ≤ count out.old }
     ensures { Put at result (quick_line Quick.clear) out.old out.new }
 {
-    let mut line = Line { out, at };
-    line.put(b"quick clear\n");
-    line.at
+    fixed_line(out, at, b"quick clear\n")
 }
 
 // The quick test says over: the smallest such length, and its demand.
@@ -114,9 +122,7 @@ pub fn exact_clear_line(out: &mut [u8], at: usize) -> usize
     requires { at + count (exact_line Exact.clear) ≤ count out.old }
     ensures { Put at result (exact_line Exact.clear) out.old out.new }
 {
-    let mut line = Line { out, at };
-    line.put(b"exact clear\n");
-    line.at
+    fixed_line(out, at, b"exact clear\n")
 }
 
 // The exact test says over: the interval, and its demand.

@@ -3,4 +3,4 @@ use Rattle.bounds.proofs.Tops.{topped}
 use Rattle.bounds.proofs.top_module.Goals as goal
 
 pub returns : goal.returns
-returns c = topped c.args.range.now.lo c.args.range.now.width _ _ _ c.offer_module.ensures
+returns c = topped c.args.range.now.lo c.args.range.now.width _ _ _ c.offer.ensures

@@ -4,6 +4,6 @@ use Rattle.demand.specs.Demanded.{answer_of}
 use Rattle.checker.proofs.Bounds.{placed}
 use Rattle.checker.proofs.tyvasuri_mode_demand.Goals as goal
 
-pub demand_number-requires : goal.demand_number-requires
-demand_number-requires c = let a = c.args in
+pub figure_number-requires : goal.figure_number-requires
+figure_number-requires c = let a = c.args in
     placed (mode_terms _ _ a.from a.to) _ a.sheet.now (answer_of c.mode_demand.result) c.mode_demand.ensures

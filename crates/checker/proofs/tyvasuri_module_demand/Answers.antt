@@ -5,6 +5,6 @@ use Rattle.demand.specs.Demanded.{answer_of}
 use Rattle.checker.proofs.Bounds.{placed}
 use Rattle.checker.proofs.tyvasuri_module_demand.Goals as goal
 
-pub demand_number-requires : goal.demand_number-requires
-demand_number-requires c = let a = c.args in
+pub figure_number-requires : goal.figure_number-requires
+figure_number-requires c = let a = c.args in
     placed (module_terms _ _ (length a.work.now)) _ a.sheet.now (answer_of c.module_demand.result) c.module_demand.ensures.answer

@@ -5,6 +5,6 @@ use Rattle.demand.specs.Demanded.{answer_of}
 use Rattle.checker.proofs.Bounds.{placed}
 use Rattle.checker.proofs.tyvasuri_state_demand.Goals as goal
 
-pub demand_number-requires : goal.demand_number-requires
-demand_number-requires c = let a = c.args in
+pub figure_number-requires : goal.figure_number-requires
+figure_number-requires c = let a = c.args in
     placed (state_terms _ _ _ _ (length a.work.now)) _ a.sheet.now (answer_of c.state_demand.result) c.state_demand.ensures.answer

@@ -5,7 +5,7 @@ use Rattle.format.proofs.RoundTrip.{accepted_well_formed}
 use Rattle.quick.proofs.first_of_all.Goals as goal
 
 pub returns-in-Some : goal.returns-in-Some
-returns-in-Some c = found_early _ _ _ _ _ _ (omega (arith, c.args.table.now.horizon_is)) (rw c.in-Some.is at (found_behind _ _ _ _ _ _ c.loop-n.invariant.1 c.first_over.ensures))
+returns-in-Some c = found_early _ _ _ _ _ _ (omega (arith, c.horizon-horizon.ensures)) (rw c.in-Some.is at (found_behind _ _ _ _ _ _ c.loop-n.invariant.1 c.first_over.ensures))
 
 pub overflow_mul-n : goal.overflow_mul-n
-overflow_mul-n c = omega (arith, (accepted_well_formed _ _ c.args.table.now.sheet.accepted).horizon_most, c.args.table.now.horizon_is)
+overflow_mul-n c = omega (arith, (accepted_well_formed _ _ c.args.table.now.sheet.accepted).horizon_most, c.horizon-horizon.ensures)

@@ -7,4 +7,4 @@ abbrev pub invariant-loop-n : goal.invariant-loop-n
 invariant-loop-n l = (1 ≤ l.n) × Stays work_numbers l.initial.work l.work
 
 abbrev pub decreases-loop-n : goal.decreases-loop-n
-decreases-loop-n l = l.table.horizon - l.n
+decreases-loop-n l = l.horizon - l.n

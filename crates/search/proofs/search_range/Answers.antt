@@ -12,20 +12,20 @@ pub returns-then-longest-eq0 : goal.returns-then-longest-eq0
 returns-then-longest-eq0 c = let s = sheet_in c.args.table.now.sheet.bytes.now in
     record {
       kept = within_none layer_from work_numbers _;
-      found = range_clear s _ _ _ _ (omega arith) c.requires.3 (rw c.if-longest-eq0.true at c.longest.ensures);
+      found = range_clear s _ _ _ _ (omega (arith, c.last-last.ensures)) c.requires.1 (rw c.if-longest-eq0.true at c.longest.ensures);
     }
 
 pub search_tile-requires : goal.search_tile-requires
 search_tile-requires c = let j = c.loop-from in
     let s = sheet_in c.args.table.now.sheet.bytes.now in
     let wide = c.width_at-width in
-    let passed = passed_kept j.invariant.kept s c.args.lo c.args.range c.requires.2 c.requires.3 in
-    (wide.ensures.0, passed_part s c.args.lo c.args.range j.from wide.result j.work j.invariant.some (omega (arith, wide.ensures.2)) passed)
+    let passed = passed_kept j.invariant.kept s c.args.range.now.lo c.args.range.now.width c.args.range.now.few c.requires.1 in
+    (wide.ensures.0, passed_part s c.args.range.now.lo c.args.range.now.width j.from wide.result j.work j.invariant.some (omega (arith, wide.ensures.2, c.last-last.ensures)) passed)
 
 pub returns-in-Some : goal.returns-in-Some
-returns-in-Some c = behind_over c.loop-from.invariant c.width_at-width.result (omega (arith, c.width_at-width.ensures.2)) (rw c.in-Some.is at c.search_tile.ensures)
+returns-in-Some c = behind_over c.loop-from.invariant c.width_at-width.result (omega (arith, c.width_at-width.ensures.2, c.last-last.ensures)) (rw c.in-Some.is at c.search_tile.ensures)
 
 pub loop-from-preserved : goal.loop-from-preserved
 loop-from-preserved c = let width = c.width_at-width in
-    behind_clear c.loop-from.invariant width.result (omega (arith, width.ensures.2))
+    behind_clear c.loop-from.invariant width.result (omega (arith, width.ensures.2, c.last-last.ensures))
     (rw c.in_default.is at c.search_tile.ensures)
