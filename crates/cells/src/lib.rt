@@ -74,7 +74,9 @@ fn first_at_end(work: &[u32], lo: usize, width: usize, i: usize) -> Option<Inter
 {
     let end = lo + i;
     let mut at = CELLS_FROM + i;
-    for l in 1..=end {
+    let mut l = 1;
+    // a range here makes the exact test of small modules take 1.6 times as long
+    while l <= end {
         if in_question(work, l) {
             let sum = work[at];
             if (l as u32) < sum {
@@ -86,6 +88,7 @@ fn first_at_end(work: &[u32], lo: usize, width: usize, i: usize) -> Option<Inter
             }
             at += width;
         }
+        l += 1;
     }
     None
 }

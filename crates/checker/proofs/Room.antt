@@ -11,14 +11,12 @@ use Rattle.model.specs.Run.{first}
 use Rattle.model.specs.Tape.{tape, tapes}
 use Rattle.model.specs.Verdict.{Quick, Exact, QuickIs, ExactIs, quick, exact}
 use Rattle.model.proofs.Verdicts.{quick_is, exact_is}
-use Rattle.query.specs.Answer.{Answer, refused, given}
+use Rattle.query.specs.Answer.{Answer, refused, given, Answered}
 use Rattle.lines.specs.Lines.{quick_line, exact_line, run_line, run_lines, witness_lines, sheet_lines}
 use Rattle.following.proofs.Tapes.{tape_length}
 use Rattle.writing.proofs.Lengths.{quick_clear_length, exact_clear_length, run_length}
-use Rattle.report.specs.Report.{out_bytes, report_terms, answer_of, Lines, Reported}
+use Rattle.report.specs.Report.{out_bytes, report_terms, Lines}
 use Rattle.report.proofs.Room.{sheet_room, quick_room, exact_room}
-use Rattle.std.specs.Prelude.{Result}
-use Rattle.judge.specs.declared.Refusal.{Refusal}
 use Rattle.checker.specs.Calls.{Held}
 use Rattle.checker.proofs.Bounds.{Possible, possible, modes_most, quick_demand, exact_demand}
 
@@ -48,9 +46,9 @@ module _ (s : Sheet) (ok : WellFormed s) where
       let head = (sheet_room (counts s).modules (counts s).modes (counts s).tasks (counts s).switches s.horizon (omega arith) (omega (arith, modes_most s ok)) (omega arith) (omega arith) (omega arith)) in
       simp length-append (omega (arith, head, quick_most (quick s) (quick_is s ok), exact_most (exact s) (exact_is s ok)))
 
-pub report_held : {bytes w w' t t' o o' : List ℕ} (r : Result ℕ Refusal) → Reported bytes w w' t t' o o' r → Held (answer_of r)
-report_held {bytes} {w} {w'} {t} {t'} {o} {o'} r h = pick (answer_of r) (possible (report_terms (length w) (length t) (length o)) (λ s n. Lines s o' n) bytes (answer_of r) h.answer)
+pub report_held : (bytes : List ℕ) (work tape out : ℕ) (o : List ℕ) (a : Answer ℕ) → Answered (report_terms work tape out) (λ s n. Lines s o n) bytes a → Held a
+report_held bytes work tape out o a h = pick a (possible (report_terms work tape out) (λ s n. Lines s o n) bytes a h)
   where
-    pick : (a : Answer ℕ) → Possible (λ s n. Lines s o' n) a → Held a
+    pick : (a : Answer ℕ) → Possible (λ s n. Lines s o n) a → Held a
     pick (refused number place) c = c.placed
     pick (given n) c = rw c.2.count (lines_most c.0 c.1)

@@ -58,35 +58,35 @@ module _ (bs : List ℕ) (st : Sheet) (r : CameTo bs st) where
 
   -- one step on
   module _ (g : st.ended ≡ false) where
-    by_test : (t : Result Sheet Refusal) → Steps bs st t → (x : Tested) → tested bs st.at r.read ≡ x → Turned bs st t r.read x
-    by_test t s x e = subst (Turned bs st t r.read) e (s r.read r.state)
+    by_test : (n : Sheet) (t : Result (Unit {0}) Refusal) → Steps bs st n t → (x : Tested) → tested bs st.at r.read ≡ x → Turned bs st n t r.read x
+    by_test n t s x e = subst (Turned bs st n t r.read) e (s r.read r.state)
 
     next_test : (x : Tested) → tested bs st.at r.read ≡ x → Next bs r.read x
     next_test x e =
         subst (Next bs r.read) (ap (λ p. tested bs p r.read) (sym r.state.at) ∙ e) (tested_next bs r.read r.front (open_end g))
 
     -- a sound record leads on, within the bytes
-    pub goes_on : (n : Sheet) → Steps bs st (Ok n) → CameTo bs n × (st.at < n.at) × (n.at ≤ length bs)
+    pub goes_on : (n : Sheet) → Steps bs st n (Ok tt) → CameTo bs n × (st.at < n.at) × (n.at ≤ length bs)
     unfolding Turned
     goes_on n s = pick (tested bs st.at r.read) refl
       where
         pick : (x : Tested) → tested bs st.at r.read ≡ x → CameTo bs n × (st.at < n.at) × (n.at ≤ length bs)
-        pick (fault k) q = absurd (by_test (Ok n) s (fault k) q)
+        pick (fault k) q = absurd (by_test n (Ok tt) s (fault k) q)
         pick (sound x) q =
             let f : Front bs (x ∷ r.read) = next_test (sound x) q in
-            let h : Reads bs n (x ∷ r.read) = by_test (Ok n) s (sound x) q in
+            let h : Reads bs n (x ∷ r.read) = by_test n (Ok tt) s (sound x) q in
             (record { read = x ∷ r.read; front = f; state = h }, omega (arith, r.state.at), omega (arith, front_fits bs (x ∷ r.read) f))
 
     -- a fault is the refusal
-    pub is_refused : (f : Refusal) → Steps bs st (Err f) → judgement bs ≡ refused (number_of f.fault) f.place
+    pub is_refused : (n : Sheet) (f : Refusal) → Steps bs st n (Err f) → judgement bs ≡ refused (number_of f.fault) f.place
     unfolding Turned
-    is_refused f s = pick (tested bs st.at r.read) refl
+    is_refused n f s = pick (tested bs st.at r.read) refl
       where
         pick : (x : Tested) → tested bs st.at r.read ≡ x → judgement bs ≡ refused (number_of f.fault) f.place
         pick (fault m) q =
-            let h : (number_of f.fault ≡ m) × (f.place ≡ st.at) = by_test (Err f) s (fault m) q in
+            let h : (number_of f.fault ≡ m) × (f.place ≡ st.at) = by_test n (Err f) s (fault m) q in
             refused_there bs (number_of f.fault) f.place r.read r.front (h.1 ∙ r.state.at) (open_end g) (rw (h.1, h.0) q)
-        pick (sound x) q = absurd (by_test (Err f) s (sound x) q)
+        pick (sound x) q = absurd (by_test n (Err f) s (sound x) q)
 
   -- EN is read
   module _ (e : st.ended ≡ true) where

@@ -64,37 +64,37 @@ target_in bs st w e = omega (arith, ltb-true, simp and-eq-true_iff at e)
 
 -- The tests of one record, in their order.
 
-module _ (bs : List ℕ) (st : Sheet) (f : Refusal) (rs : List Record) where
-  pub no_bytes : length bs < st.at + 2 → f ≡ refusal CutShort st.at → Turned bs st (Err f) rs (tested bs st.at rs)
+module _ (bs : List ℕ) (st n : Sheet) (f : Refusal) (rs : List Record) where
+  pub no_bytes : length bs < st.at + 2 → f ≡ refusal CutShort st.at → Turned bs st n (Err f) rs (tested bs st.at rs)
   unfolding Turned
   no_bytes l e = rw (tested_short bs st.at rs l, e) (refl, refl)
 
-  pub no_mark : st.at + 2 ≤ length bs → mark_at bs st.at ≡ none → f ≡ refusal UnknownMark st.at → Turned bs st (Err f) rs (tested bs st.at rs)
+  pub no_mark : st.at + 2 ≤ length bs → mark_at bs st.at ≡ none → f ≡ refusal UnknownMark st.at → Turned bs st n (Err f) rs (tested bs st.at rs)
   unfolding Turned
-  no_mark l n e = rw (tested_marked bs st.at rs l, n, e) (refl, refl)
+  no_mark l u e = rw (tested_marked bs st.at rs l, u, e) (refl, refl)
 
   pub cut_short : (m : Mark) → st.at + 2 ≤ length bs → mark_at bs st.at ≡ some m → length bs < st.at + size m → f ≡ refusal CutShort st.at
-      → Turned bs st (Err f) rs (tested bs st.at rs)
+      → Turned bs st n (Err f) rs (tested bs st.at rs)
   unfolding Turned
-  cut_short m l n c e = rw (tested_cut bs st.at rs m l n c, e) (refl, refl)
+  cut_short m l u c e = rw (tested_cut bs st.at rs m l u c, e) (refl, refl)
 
-module _ (bs : List ℕ) (st : Sheet) (t : Result Sheet Refusal) (rs : List Record) (m : Mark) (w : Whole bs st.at m) (h : Reads bs st rs) where
-  pub out_of_order : t ≡ Err (refusal OutOfOrder st.at) → order_kept m st ≡ false → Turned bs st t rs (tested bs st.at rs)
+module _ (bs : List ℕ) (st n : Sheet) (t : Result (Unit {0}) Refusal) (rs : List Record) (m : Mark) (w : Whole bs st.at m) (h : Reads bs st rs) where
+  pub out_of_order : t ≡ Err (refusal OutOfOrder st.at) → order_kept m st ≡ false → Turned bs st n t rs (tested bs st.at rs)
   unfolding Turned
   out_of_order k o = rw (tested_whole bs st.at rs m w, ← order_same bs st rs h m, o, k) (refl, refl)
 
-  pub in_order : order_kept m st ≡ true → Turned bs st t rs (judged m (record_at m bs st.at) rs) → Turned bs st t rs (tested bs st.at rs)
+  pub in_order : order_kept m st ≡ true → Turned bs st n t rs (judged m (record_at m bs st.at) rs) → Turned bs st n t rs (tested bs st.at rs)
   unfolding judged
   in_order o j = rw (tested_whole bs st.at rs m w, ← order_same bs st rs h m, o) j
 
-module _ (bs : List ℕ) (st : Sheet) (f : Refusal) (rs : List Record) (m : Mark) (r : Record) where
-  pub over_count : counted m rs ≡ false → f ≡ refusal PastCount st.at → Turned bs st (Err f) rs (judged m r rs)
+module _ (bs : List ℕ) (st n : Sheet) (f : Refusal) (rs : List Record) (m : Mark) (r : Record) where
+  pub over_count : counted m rs ≡ false → f ≡ refusal PastCount st.at → Turned bs st n (Err f) rs (judged m r rs)
   unfolding Turned judged
-  over_count n e = rw (n, e) (refl, refl)
+  over_count u e = rw (u, e) (refl, refl)
 
-  pub out_of_rule : counted m rs ≡ true → ruled r rs ≡ false → (k : Fault) → number_of k ≡ field_number m → f ≡ refusal k st.at → Turned bs st (Err f) rs (judged m r rs)
+  pub out_of_rule : counted m rs ≡ true → ruled r rs ≡ false → (k : Fault) → number_of k ≡ field_number m → f ≡ refusal k st.at → Turned bs st n (Err f) rs (judged m r rs)
   unfolding Turned judged
-  out_of_rule n v k q e = rw (n, v, e) (q, refl)
+  out_of_rule u v k q e = rw (u, v, e) (q, refl)
 
 -- The tasks of the open mode.
 
@@ -179,8 +179,8 @@ reads_next bs st rs h g (en n) o f =
     search (arith, next)
 
 pub all_right : (bs : List ℕ) (st : Sheet) (n : Sheet) (rs : List Record) (m : Mark) (r : Record) → mark_of r ≡ m → Room m bs st → counted m rs ≡ true → ruled r rs ≡ true
-    → Reads bs st rs → Fits r bs st → n ≡ after r st → Turned bs st (Ok n) rs (judged m r rs)
+    → Reads bs st rs → Fits r bs st → n ≡ after r st → Turned bs st n (Ok tt) rs (judged m r rs)
 unfolding Turned judged
-all_right bs st t rs m r is w n v h f e =
+all_right bs st n rs m r is w u v h f e =
     let order : ordered (mark_of r) rs ≡ true = rw is (sym (order_same bs st rs h m) ∙ w.order) in
-    rw (n, v) (rw e (reads_next bs st rs h w.within.going r order f))
+    rw (u, v) (rw e (reads_next bs st rs h w.within.going r order f))

@@ -144,19 +144,19 @@ abbrev pub onward : ℕ → Sheet → Sheet
 onward bytes st =
     row st bytes st.horizon st.modules st.modes st.tasks st.switches st.stated st.seen st.period st.from st.held st.switching st.ended st.named
 
--- the turn t is what the tests of the record after rs say: the fault's number at this place, or the records with this one
-unfoldable pub Turned : List ℕ → Sheet → Result Sheet Refusal → List Record → Tested → Type 0
-Turned bs st t rs (fault n) = IsErrAnd t (λ r. (number_of r.fault ≡ n) × (r.place ≡ st.at))
-Turned bs st t rs (sound r) = IsOkAnd t (λ next. Reads bs next (r ∷ rs))
+-- the turn t, which leads from st to next, is what the tests of the record after rs say: the fault's number at this place, or the records with this one
+unfoldable pub Turned : List ℕ → Sheet → Sheet → Result (Unit {0}) Refusal → List Record → Tested → Type 0
+Turned bs st next t rs (fault n) = IsErrAnd t (λ r. (number_of r.fault ≡ n) × (r.place ≡ st.at))
+Turned bs st next t rs (sound r) = IsOkAnd t (λ _. Reads bs next (r ∷ rs))
 
 -- counts (4) and values (5, 6, 7) of a record of this mark
 unfoldable pub judged : Mark → Record → List Record → Tested
 judged m r rs = or_fault (counted m rs) 4 (or_fault (ruled r rs) (field_number m) (sound r))
 
 -- a record of this mark, whole and in order, is judged for whatever records the state stands for
-abbrev pub Judges : Mark → List ℕ → Sheet → Result Sheet Refusal → Type 0
-Judges m bs st t = (rs : List Record) → Reads bs st rs → Turned bs st t rs (judged m (record_at m bs st.at) rs)
+abbrev pub Judges : Mark → List ℕ → Sheet → Sheet → Result (Unit {0}) Refusal → Type 0
+Judges m bs st next t = (rs : List Record) → Reads bs st rs → Turned bs st next t rs (judged m (record_at m bs st.at) rs)
 
 -- whatever is at the state's place is
-abbrev pub Steps : List ℕ → Sheet → Result Sheet Refusal → Type 0
-Steps bs st t = (rs : List Record) → Reads bs st rs → Turned bs st t rs (tested bs st.at rs)
+abbrev pub Steps : List ℕ → Sheet → Sheet → Result (Unit {0}) Refusal → Type 0
+Steps bs st next t = (rs : List Record) → Reads bs st rs → Turned bs st next t rs (tested bs st.at rs)

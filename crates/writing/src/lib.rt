@@ -16,7 +16,8 @@ struct Line<'a> {
 }
 
 impl Line<'_> {
-    // Bytes as they stand.
+    // Bytes as they stand. Where it is called what the bytes are is known, and the archive wants no memmove of C's library for them.
+    #[inline(always)]
     #[tactic(auto, using(crate::proofs::Writing::put_part))]
     fn put(&mut self, bytes: &[u8])
         requires { self.old.at + count bytes.now ≤ count self.old.out.now }
@@ -27,13 +28,22 @@ impl Line<'_> {
         self.at = next;
     }
 
+    // The digits of a number.
+    fn put_decimal(&mut self, n: usize)
+        requires { self.old.at + count (decimal n) ≤ count self.old.out.now }
+        ensures { Wrote self.old self.new (decimal n) }
+    {
+        self.put(itoa::Buffer::new().format(n).as_bytes());
+    }
+
     // A word, and the number that it names.
+    #[inline(always)]
     fn put_number(&mut self, word: &[u8], n: usize)
         requires { self.old.at + count (word.now ++ decimal n) ≤ count self.old.out.now }
         ensures { Wrote self.old self.new (word.now ++ decimal n) }
     {
         self.put(word);
-        self.put(itoa::Buffer::new().format(n).as_bytes());
+        self.put_decimal(n);
     }
 
     // The digit of each byte of a tape.

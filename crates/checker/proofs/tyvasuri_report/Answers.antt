@@ -12,7 +12,7 @@ use Rattle.checker.proofs.tyvasuri_report.Goals as goal
 
 pub map-requires : goal.map-requires
 map-requires c count is fits callable =
-    let held : Held (answer_of (Ok count)) = subst (λ r. Held (answer_of r)) is (report_held _ c.write_report.ensures) in
+    let held : Held (answer_of (Ok count)) = subst (λ r. Held (answer_of r)) is (report_held _ _ _ _ _ _ c.write_report.ensures.answer) in
     omega (arith, held)
 
 -- a refusal is the same where what is given is made another figure
@@ -22,4 +22,4 @@ kept P (Ok x) (Ok v) held is = tt
 kept P (Ok x) (Err e) held is = absurd is
 
 pub figure_number-requires : goal.figure_number-requires
-figure_number-requires c = kept _ _ _ (report_held _ c.write_report.ensures) c.map.ensures.cases
+figure_number-requires c = kept _ _ _ (report_held _ _ _ _ _ _ c.write_report.ensures.answer) c.map.ensures.cases

@@ -10,8 +10,8 @@ use Rattle.judge.proofs.Sheet.horizon_record.Goals as goal
 
 pub returns-then-not-contains : goal.returns-then-not-contains
 unfolding counted ruled
-returns-then-not-contains c = λ rs h. rw (← c.field-horizon.ensures) (out_of_rule _ _ _ rs HZ (hz c.field-horizon.result) refl (grind (arith, nat_tests)) BadField refl c.at.ensures)
+returns-then-not-contains c = λ rs h. rw (← c.field-horizon.ensures) (out_of_rule _ _ _ _ rs HZ (hz c.field-horizon.result) refl (grind (arith, nat_tests)) BadField refl c.at.ensures)
 
 pub returns : goal.returns
 unfolding counted ruled
-returns c = λ rs h. rw (← c.field-horizon.ensures) (all_right _ _ _ rs _ (hz c.field-horizon.result) refl c.requires refl (grind (arith, nat_tests)) h tt c.past.ensures)
+returns c = λ rs h. rw (← c.field-horizon.ensures) (all_right _ _ _ rs _ (hz c.field-horizon.result) refl c.requires refl (grind (arith, nat_tests)) h tt c.pass.ensures)

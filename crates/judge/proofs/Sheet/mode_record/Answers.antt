@@ -10,8 +10,8 @@ use Rattle.judge.proofs.Sheet.mode_record.Goals as goal
 
 pub returns-then-not-contains : goal.returns-then-not-contains
 unfolding counted ruled
-returns-then-not-contains c = λ rs h. rw (← c.field-period.ensures) (out_of_rule _ _ _ rs MD (md c.field-period.result) refl (grind (arith, nat_tests)) BadField refl c.at.ensures)
+returns-then-not-contains c = λ rs h. rw (← c.field-period.ensures) (out_of_rule _ _ _ _ rs MD (md c.field-period.result) refl (grind (arith, nat_tests)) BadField refl c.at.ensures)
 
 pub returns : goal.returns
 unfolding counted ruled
-returns c = λ rs h. rw (← c.field-period.ensures) (all_right _ _ _ rs _ (md c.field-period.result) refl c.requires refl (grind (arith, nat_tests)) h tt (rw c.bytes_of.ensures.0 at c.past.ensures))
+returns c = λ rs h. rw (← c.field-period.ensures) (all_right _ _ _ rs _ (md c.field-period.result) refl c.requires refl (grind (arith, nat_tests)) h tt (rw c.bytes_of.ensures.0 at c.pass.ensures))
