@@ -16,7 +16,7 @@ struct Line<'a> {
 }
 
 impl Line<'_> {
-    // Bytes as they stand. Where it is called what the bytes are is known, and the archive wants no memmove of C's library for them.
+    // Bytes as they stand. Taken in where it is called and the bytes are known: else the archive wants a memmove from outside.
     #[inline(always)]
     #[tactic(auto, using(crate::proofs::Writing::put_part))]
     fn put(&mut self, bytes: &[u8])
@@ -36,7 +36,7 @@ impl Line<'_> {
         self.put(itoa::Buffer::new().format(n).as_bytes());
     }
 
-    // A word, and the number that it names.
+    // A word, and the number that it names; taken in for the same reason.
     #[inline(always)]
     fn put_number(&mut self, word: &[u8], n: usize)
         requires { self.old.at + count (word.now ++ decimal n) ≤ count self.old.out.now }
